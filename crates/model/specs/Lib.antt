@@ -1,0 +1,10 @@
+pub mod Demands
+pub mod Flow
+pub mod Intervals
+pub mod Labels
+pub mod Limits
+pub mod Network
+pub mod Refusals
+pub mod Rules
+pub mod Ticks
+pub mod Walks

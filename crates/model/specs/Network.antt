@@ -1,0 +1,59 @@
+-- A town's network as its tables, the plain statement of its rules, and the net that it is.
+use Prim.Native.Nat.{ℕ, _*_, _≤_, _<_}
+use mathlib.Core.Path.{_≡_}
+use mathlib.Core.List.{List}
+use lib.ListN.{length, getD, take, drop}
+use Rattle.model.specs.Limits.{maxJunctions, maxArcs, maxIntervals, maxLength, maxSpeed}
+use Rattle.model.specs.Flow.{spansOf, arrival}
+use Rattle.model.specs.Intervals.{FencesKept, speedAt}
+use Rattle.model.specs.Walks.{Net}
+
+pub record Network : Type 0 where
+  pub junctions : ℕ
+  pub fences : List ℕ
+  pub tails : List ℕ
+  pub heads : List ℕ
+  pub lengths : List ℕ
+  pub speeds : List ℕ
+
+-- "The arc count is the length of the tails."
+abbrev pub arcs : Network → ℕ
+arcs N = length (N .tails)
+
+abbrev pub intervals : Network → ℕ
+intervals N = length (N .fences)
+
+-- "Each arc has one speed per interval": the speeds stand arc by arc.
+abbrev pub speedsOf : Network → ℕ → List ℕ
+speedsOf N a = take (intervals N) (drop (a * intervals N) (N .speeds))
+
+-- The rules of a network.
+pub record Accepted (N : Network) : Type 0 where
+  pub some-junction : 1 ≤ N .junctions
+  pub junctions-fit : N .junctions ≤ maxJunctions
+  pub some-interval : 1 ≤ intervals N
+  pub intervals-fit : intervals N ≤ maxIntervals
+  pub arcs-fit : arcs N ≤ maxArcs
+  pub heads-long : length (N .heads) ≡ arcs N
+  pub lengths-long : length (N .lengths) ≡ arcs N
+  pub speeds-long : length (N .speeds) ≡ arcs N * intervals N
+  pub fences-kept : FencesKept (N .fences)
+  pub tail-below : (a : ℕ) → a < arcs N → getD (N .tails) a 0 < N .junctions
+  pub head-below : (a : ℕ) → a < arcs N → getD (N .heads) a 0 < N .junctions
+  pub ends-differ : (a : ℕ) → a < arcs N → getD (N .tails) a 0 ≡ getD (N .heads) a 0 → ⊥
+  pub some-length : (a : ℕ) → a < arcs N → 1 ≤ getD (N .lengths) a 0
+  pub length-fits : (a : ℕ) → a < arcs N → getD (N .lengths) a 0 ≤ maxLength
+  pub speed-fits : (i : ℕ) → i < arcs N * intervals N → getD (N .speeds) i 0 ≤ maxSpeed
+
+-- The arrival on an arc that is left at a tick.
+unfoldable pub driveOf : Network → ℕ → ℕ → ℕ
+driveOf N a t = arrival (speedAt (N .fences) (speedsOf N a)) (spansOf (getD (N .lengths) a 0)) t
+
+abbrev pub netOf : Network → Net
+netOf N = record {
+  junctions = N .junctions;
+  arcs = arcs N;
+  tail = λ a. getD (N .tails) a 0;
+  head = λ a. getD (N .heads) a 0;
+  drive = driveOf N
+}

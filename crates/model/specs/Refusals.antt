@@ -1,0 +1,30 @@
+-- The number that document 01 gives each refusal.
+use Prim.Native.Nat.{ℕ}
+use Rattle.model.specs.declared.refusal.Refusal.{Refusal}
+use Rattle.model.specs.declared.refusal.Refusal.the-variants.{JunctionCount, IntervalCount, ArcCount, TableLength, Fence, ArcEnds, Length, Speed, Source, Departure, BufferLength, Destination, Unreached, ArcListLength, DepartureAfterLast, TextLength, NoLineFeed, LineLength, UnknownMark, MarkOutOfTurn, FieldForm, FieldValue, LineMissing, TableTooShort}
+
+abbrev pub numberOf : Refusal → ℕ
+numberOf JunctionCount = 1
+numberOf IntervalCount = 2
+numberOf ArcCount = 3
+numberOf TableLength = 4
+numberOf Fence = 5
+numberOf ArcEnds = 6
+numberOf Length = 7
+numberOf Speed = 8
+numberOf Source = 9
+numberOf Departure = 10
+numberOf BufferLength = 11
+numberOf Destination = 12
+numberOf Unreached = 13
+numberOf ArcListLength = 14
+numberOf DepartureAfterLast = 15
+numberOf TextLength = 20
+numberOf NoLineFeed = 21
+numberOf LineLength = 22
+numberOf UnknownMark = 23
+numberOf MarkOutOfTurn = 24
+numberOf FieldForm = 25
+numberOf FieldValue = 26
+numberOf LineMissing = 27
+numberOf TableTooShort = 28

@@ -1,0 +1,51 @@
+-- How an operation refuses: its rules in the paper's order, each a number and a test, of which the first that is broken counts.
+use Prim.Native.Nat.{ℕ, suc}
+use mathlib.Core.Bool.{Bool, true, false, not, _&&_, _||_, cond}
+use mathlib.Core.List.{List, [], _∷_}
+use lib.Dec.{leb, ltb, eqb}
+use lib.ListN.{length}
+use Rattle.model.specs.Ticks.{day, last}
+use Rattle.model.specs.Limits.{maxIntervals, maxLength, maxSpeed}
+
+-- What an operation comes to: the refusal's number, or the reply.
+pub data Outcome (Reply : Type 0) : Type 0 where
+  refused : ℕ → Outcome Reply
+  replied : Reply → Outcome Reply
+
+pub record Rule : Type 0 where
+  pub number : ℕ
+  pub broken : Bool
+
+infix 40 _if_
+
+abbrev pub _if_ : ℕ → Bool → Rule
+number if broken = record { number = number; broken = broken }
+
+unfoldable pub firstBroken : {Reply : Type 0} → List Rule → Reply → Outcome Reply
+firstBroken [] reply = replied reply
+firstBroken (rule ∷ rules) reply = cond (rule .broken) (refused (rule .number)) (firstBroken rules reply)
+
+-- ---- The tests
+
+unfoldable pub every : (ℕ → Bool) → List ℕ → Bool
+every test [] = true
+every test (x ∷ xs) = test x && every test xs
+
+-- The fences after one: each is greater than the one before, and below the day.
+unfoldable pub riseFrom : ℕ → List ℕ → Bool
+riseFrom before [] = true
+riseFrom before (fence ∷ fences) = ltb before fence && ltb fence day && riseFrom fence fences
+
+-- The rules on fences.
+unfoldable pub fencesKeep : List ℕ → Bool
+fencesKeep [] = true
+fencesKeep (fence ∷ fences) = eqb fence 0 && riseFrom fence fences
+
+abbrev pub countKeeps : List ℕ → Bool
+countKeeps fences = ltb 0 (length fences) && leb (length fences) maxIntervals
+
+abbrev pub lengthKeeps : ℕ → Bool
+lengthKeeps metres = ltb 0 metres && leb metres maxLength
+
+abbrev pub speedKeeps : ℕ → Bool
+speedKeeps speed = leb speed maxSpeed

@@ -1,0 +1,4 @@
+// The flow speed model of Sung and Bell in whole ticks: the types that every operation shares. Their meaning, and the
+// laws that hold of it, stand in specs/ and proofs/.
+pub mod refusal;
+pub mod tick;

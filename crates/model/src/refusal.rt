@@ -1,0 +1,67 @@
+// Every refusal of the operations, by name, and its number.
+ghost use mathlib.Core.Path.{_≡_};
+ghost use Rattle.model.specs.Refusals.{numberOf};
+
+pub enum Refusal {
+    // The network's rules.
+    JunctionCount,
+    IntervalCount,
+    ArcCount,
+    TableLength,
+    Fence,
+    ArcEnds,
+    Length,
+    Speed,
+    // The question's.
+    Source,
+    Departure,
+    BufferLength,
+    Destination,
+    Unreached,
+    ArcListLength,
+    DepartureAfterLast,
+    // The town file's.
+    TextLength,
+    NoLineFeed,
+    LineLength,
+    UnknownMark,
+    MarkOutOfTurn,
+    FieldForm,
+    FieldValue,
+    LineMissing,
+    TableTooShort,
+}
+
+impl Refusal {
+    // The number by which the operations' users know the refusal.
+    pub fn number(self) -> u32
+        ensures { λ r. ⌜ r ≡ numberOf self ⌝ }
+    {
+        match self {
+            Refusal::JunctionCount => 1,
+            Refusal::IntervalCount => 2,
+            Refusal::ArcCount => 3,
+            Refusal::TableLength => 4,
+            Refusal::Fence => 5,
+            Refusal::ArcEnds => 6,
+            Refusal::Length => 7,
+            Refusal::Speed => 8,
+            Refusal::Source => 9,
+            Refusal::Departure => 10,
+            Refusal::BufferLength => 11,
+            Refusal::Destination => 12,
+            Refusal::Unreached => 13,
+            Refusal::ArcListLength => 14,
+            Refusal::DepartureAfterLast => 15,
+            Refusal::TextLength => 20,
+            Refusal::NoLineFeed => 21,
+            Refusal::LineLength => 22,
+            Refusal::UnknownMark => 23,
+            Refusal::MarkOutOfTurn => 24,
+            Refusal::FieldForm => 25,
+            Refusal::FieldValue => 26,
+            Refusal::LineMissing => 27,
+            Refusal::TableTooShort => 28,
+        }
+    }
+}

@@ -1,0 +1,5 @@
+pub mod Arrival
+pub mod Covered
+pub mod IntervalWalk
+pub mod Passed
+pub mod Tests

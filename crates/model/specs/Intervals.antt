@@ -42,15 +42,15 @@ tries (end ∷ ends) (speed ∷ speeds) at left =
 tries [] speeds at left = never
 tries (end ∷ ends) [] at left = never
 
--- The last interval counts up to the last tick.
+-- The tick at which each interval ends: the next fence, and for the last interval, which counts that far, the last tick.
 abbrev pub endsOf : List ℕ → List ℕ
-endsOf laterFences = laterFences ++ (last ∷ [])
+endsOf fences = drop 1 fences ++ (last ∷ [])
 
 -- The walk from the interval of the departure on.
 unfoldable pub intervalWalk : List ℕ → List ℕ → ℕ → ℕ → ℕ
 intervalWalk fences speeds spans s =
     let k = interval fences s in
-    tries (endsOf (drop (suc k) fences)) (drop k speeds) s spans
+    tries (drop k (endsOf fences)) (drop k speeds) s spans
 
 -- ---- What is proved of it
 

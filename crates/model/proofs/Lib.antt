@@ -1,5 +1,10 @@
 pub mod Arrival
 pub mod Covered
+pub mod Distinct
 pub mod IntervalWalk
+pub mod Least
 pub mod Passed
+pub mod Rules
 pub mod Tests
+pub mod Walks
+pub mod Within

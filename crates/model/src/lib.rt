@@ -1,4 +1,5 @@
 // The flow speed model of Sung and Bell in whole ticks: the types that every operation shares. Their meaning, and the
 // laws that hold of it, stand in specs/ and proofs/.
+pub mod limit;
 pub mod refusal;
 pub mod tick;

@@ -1,0 +1,94 @@
+-- The rules' tests and their plain statements: a check replies where no test fires, and each test that runs through a table
+-- fires unless its rule holds at every entry.
+use Prim.Native.Nat.{ℕ, zero, suc, _<_}
+use mathlib.Core.Path.{_≡_, refl}
+use mathlib.Core.Bool.{Bool, true, false, _&&_, cond}
+use mathlib.Core.List.{List, [], _∷_}
+use native.Mathlib.Omega.{arith}
+use lib.Dec.{ltb, eqb}
+use lib.ListN.{length, getD}
+use borrow.Author.Tests.{ltb-true, eqb-true, lt-ltb, eq-eqb}
+use Rattle.model.specs.Ticks.{day}
+use Rattle.model.specs.Intervals.{FencesKept}
+use Rattle.model.specs.Rules.{Outcome, refused, replied, Rule, firstBroken, every, riseFrom, fencesKeep}
+
+-- ---- Which rule counts
+
+-- No rule of the list is broken.
+abbrev pub AllKept : List Rule → Type 0
+AllKept [] = Unit {0}
+AllKept (rule ∷ rules) = (rule .broken ≡ false) × AllKept rules
+
+pub kept-replies : {Reply : Type 0} (rules : List Rule) (reply : Reply) → AllKept rules → firstBroken rules reply ≡ replied reply
+unfolding firstBroken
+kept-replies [] reply kept = refl
+kept-replies (rule ∷ rules) reply kept = rw (kept .0) (kept-replies rules reply (kept .1))
+
+not-refused : {Reply : Type 0} (broken : Bool) (number : ℕ) (rest : Outcome Reply) (reply : Reply) → cond broken (refused number) rest ≡ replied reply → (broken ≡ false) × (rest ≡ replied reply)
+not-refused true number rest reply e = absurd (let z : _≡_ {A = ℕ} 0 1 = cc in omega arith)
+not-refused false number rest reply e = (refl, e)
+
+pub replies-kept : {Reply : Type 0} (rules : List Rule) (reply reply′ : Reply) → firstBroken rules reply ≡ replied reply′ → AllKept rules
+unfolding firstBroken
+replies-kept [] reply reply′ e = tt
+replies-kept (rule ∷ rules) reply reply′ e =
+    let parts = not-refused (rule .broken) (rule .number) (firstBroken rules reply) reply′ e in
+    (parts .0, replies-kept rules reply reply′ (parts .1))
+
+-- ---- Tests that hold together
+
+pub both-true : {a b : Bool} → a ≡ true → b ≡ true → (a && b) ≡ true
+both-true p q = rw (p, q)
+
+pub true-both : (a b : Bool) → (a && b) ≡ true → (a ≡ true) × (b ≡ true)
+true-both true b e = (refl, e)
+true-both false b e = absurd (let z : _≡_ {A = ℕ} 0 1 = cc in omega arith)
+
+-- ---- Tests that run through a table
+
+module _ (test : ℕ → Bool) (d : ℕ) where
+  pub every-at : (xs : List ℕ) → every test xs ≡ true → (k : ℕ) → k < length xs → test (getD xs k d) ≡ true
+  unfolding every
+  every-at [] e k h = absurd (omega arith)
+  every-at (x ∷ xs) e zero h = true-both (test x) (every test xs) e .0
+  every-at (x ∷ xs) e (suc k) h = every-at xs (true-both (test x) (every test xs) e .1) k (omega arith)
+
+  pub at-every : (xs : List ℕ) → ((k : ℕ) → k < length xs → test (getD xs k d) ≡ true) → every test xs ≡ true
+  unfolding every
+  at-every [] all = refl
+  at-every (x ∷ xs) all = both-true (all 0 (omega arith)) (at-every xs (λ k h. all (suc k) (omega arith)))
+
+-- ---- The fences
+
+rise-at : (before : ℕ) (fences : List ℕ) → riseFrom before fences ≡ true → (k : ℕ) → k < length fences → (getD (before ∷ fences) k 0 < getD fences k 0) × (getD fences k 0 < day)
+unfolding riseFrom
+rise-at before [] e k h = absurd (omega arith)
+rise-at before (f ∷ fs) e zero h =
+    let here = true-both (ltb before f) (ltb f day) (true-both (ltb before f && ltb f day) (riseFrom f fs) e .0) in
+    (ltb-true before f (here .0), ltb-true f day (here .1))
+rise-at before (f ∷ fs) e (suc k) h = rise-at f fs (true-both (ltb before f && ltb f day) (riseFrom f fs) e .1) k (omega arith)
+
+at-rise : (before : ℕ) (fences : List ℕ) → ((k : ℕ) → k < length fences → (getD (before ∷ fences) k 0 < getD fences k 0) × (getD fences k 0 < day)) → riseFrom before fences ≡ true
+unfolding riseFrom
+at-rise before [] rises = refl
+at-rise before (f ∷ fs) rises =
+    let here = rises 0 (omega arith) in
+    both-true (both-true (lt-ltb before f (here .0)) (lt-ltb f day (here .1))) (at-rise f fs (λ k h. rises (suc k) (omega arith)))
+
+pub fences-kept : (fences : List ℕ) → fencesKeep fences ≡ true → FencesKept fences
+unfolding fencesKeep
+fences-kept [] e = record { first-is-0 = refl; rising = λ k h. absurd (omega arith); below-day = λ k h. absurd (omega arith) }
+fences-kept (f ∷ fs) e =
+    let parts = true-both (eqb f 0) (riseFrom f fs) e in
+    let first : f ≡ 0 = eqb-true f 0 (parts .0) in
+    record { first-is-0 = first; rising = λ k h. rise-at f fs (parts .1) k (omega arith) .0; below-day = below first (rise-at f fs (parts .1)) }
+  where
+    below : f ≡ 0 → ((k : ℕ) → k < length fs → (getD (f ∷ fs) k 0 < getD fs k 0) × (getD fs k 0 < day)) → (k : ℕ) → k < suc (length fs) → getD (f ∷ fs) k 0 < day
+    below first rises zero h = omega arith
+    below first rises (suc k) h = rises k (omega arith) .1
+
+pub kept-fences : (fences : List ℕ) → FencesKept fences → fencesKeep fences ≡ true
+unfolding fencesKeep
+kept-fences [] kept = refl
+kept-fences (f ∷ fs) kept =
+    both-true (eq-eqb f 0 (kept .first-is-0)) (at-rise f fs (λ k h. (kept .rising k (omega arith), kept .below-day (suc k) (omega arith))))

@@ -6,11 +6,11 @@ use mathlib.Core.Bool.{Bool, true, false, _&&_, cond}
 use mathlib.Core.List.{List, [], _∷_}
 use native.Mathlib.Omega.{arith}
 use lib.Dec.{ltb, eqb}
-use lib.ListN.{length, getD}
+use lib.ListN.{length, getD, take}
 use borrow.Author.Tests.{ltb-true, eqb-true, lt-ltb, eq-eqb}
 use Rattle.model.specs.Ticks.{day}
 use Rattle.model.specs.Intervals.{FencesKept}
-use Rattle.model.specs.Rules.{Outcome, refused, replied, Rule, firstBroken, every, riseFrom, fencesKeep}
+use Rattle.model.specs.Rules.{Outcome, refused, replied, Rule, _if_, firstBroken, every, riseFrom, fencesKeep}
 
 -- ---- Which rule counts
 
@@ -34,6 +34,20 @@ replies-kept [] reply reply′ e = tt
 replies-kept (rule ∷ rules) reply reply′ e =
     let parts = not-refused (rule .broken) (rule .number) (firstBroken rules reply) reply′ e in
     (parts .0, replies-kept rules reply reply′ (parts .1))
+
+-- One rule more.
+pub kept-next : (rules : List Rule) (k : ℕ) → AllKept (take k rules) → (getD rules k (0 if false)) .broken ≡ false → AllKept (take (suc k) rules)
+kept-next [] k kept here = tt
+kept-next (rule ∷ rules) zero kept here = (here, tt)
+kept-next (rule ∷ rules) (suc k) kept here = (kept .0, kept-next rules k (kept .1) here)
+
+-- The rule at a place of the list counts where it is broken and those before it are kept.
+pub refused-at : {Reply : Type 0} (rules : List Rule) (reply : Reply) (k : ℕ) → AllKept (take k rules) → (getD rules k (0 if false)) .broken ≡ true →
+    refused ((getD rules k (0 if false)) .number) ≡ firstBroken rules reply
+unfolding firstBroken
+refused-at [] reply k kept broken = absurd (let z : _≡_ {A = ℕ} 0 1 = cc in omega arith)
+refused-at (rule ∷ rules) reply zero kept broken = rw broken
+refused-at (rule ∷ rules) reply (suc k) kept broken = rw (kept .0) (refused-at rules reply k (kept .1) broken)
 
 -- ---- Tests that hold together
 

@@ -71,7 +71,7 @@ pub record Certified (N : Net) (source departure : ℕ) (labels predecessors : L
   pub source-predecessor : getD predecessors source noArc ≡ noArc
   pub no-lower : (a : ℕ) → a < N .arcs → getD labels (N .head a) never ≤ N .drive a (getD labels (N .tail a) never)
   pub others : (j : ℕ) → j < N .junctions → (j ≡ source → ⊥) →
-    ((getD labels j never ≡ never) × (getD predecessors j noArc ≡ noArc)) ⊎ Attains N labels j (getD predecessors j noArc)
+      ((getD labels j never ≡ never) × (getD predecessors j noArc ≡ noArc)) ⊎ Attains N labels j (getD predecessors j noArc)
 
 -- Each predecessor is the lowest-numbered arc that attains its junction's label.
 abbrev pub Lowest : Net → ℕ → List ℕ → List ℕ → Type 0

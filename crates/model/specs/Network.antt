@@ -55,5 +55,5 @@ netOf N = record {
   arcs = arcs N;
   tail = λ a. getD (N .tails) a 0;
   head = λ a. getD (N .heads) a 0;
-  drive = driveOf N
+  drive = driveOf N;
 }

@@ -17,7 +17,6 @@ pub record Rule : Type 0 where
   pub broken : Bool
 
 infix 40 _if_
-
 abbrev pub _if_ : ℕ → Bool → Rule
 number if broken = record { number = number; broken = broken }
 

@@ -1,0 +1,4 @@
+pub mod ArcRules
+pub mod Intervals
+pub mod Scan
+pub mod Trying

@@ -1,0 +1,48 @@
+// Arc arrival: when a vehicle that leaves an arc's tail at a tick reaches its head.
+ghost use mathlib.Core.Path.{_≡_};
+ghost use Rattle.reckoning.specs.ArcArrival.{arcArrival, outcomeOf};
+use crate::check::fences_keep;
+use crate::check::interval_count_keeps;
+use crate::check::length_keeps;
+use crate::check::speeds_keep;
+use crate::drive::drive;
+use crate::drive::fences_passed;
+use model::refusal::Refusal;
+use model::tick::Arrival;
+use model::tick::Tick;
+
+pub enum ArcArrival {
+    At(Tick),
+    CannotBeDriven,
+    Refused(Refusal),
+}
+
+// The length is in metres; the speeds are the arc's own, one for each interval.
+pub fn arc_arrival(departure: Tick, metres: u32, fences: &[u32], speeds: &[u8]) -> ArcArrival
+    ensures { λ r. ⌜ outcomeOf r ≡ arcArrival (departure .number) metres (now (fences .entry)) (now (speeds .entry)) ⌝ }
+{
+    let tick = departure.number;
+    if !interval_count_keeps(fences) {
+        return ArcArrival::Refused(Refusal::IntervalCount);
+    }
+    if speeds.len() != fences.len() {
+        return ArcArrival::Refused(Refusal::TableLength);
+    }
+    if !fences_keep(fences) {
+        return ArcArrival::Refused(Refusal::Fence);
+    }
+    if !length_keeps(metres) {
+        return ArcArrival::Refused(Refusal::Length);
+    }
+    if !speeds_keep(speeds) {
+        return ArcArrival::Refused(Refusal::Speed);
+    }
+    if Tick::LAST < tick {
+        return ArcArrival::Refused(Refusal::DepartureAfterLast);
+    }
+    let interval = fences_passed(fences, tick) - 1;
+    match drive(tick, interval, metres, fences, speeds) {
+        Arrival::At(arrival) => ArcArrival::At(arrival),
+        Arrival::Never => ArcArrival::CannotBeDriven,
+    }
+}

@@ -1,0 +1,58 @@
+// The tests of the rules. Each is the definition's own test, of the whole table where it is one of a table.
+ghost use mathlib.Core.Path.{_≡_};
+ghost use Rattle.model.specs.Rules.{every, countKeeps, fencesKeep, lengthKeeps, speedKeeps};
+use model::limit::MAX_INTERVALS;
+use model::limit::MAX_LENGTH;
+use model::limit::MAX_SPEED;
+use model::tick::Tick;
+
+pub(crate) fn interval_count_keeps(fences: &[u32]) -> bool
+    ensures { λ r. ⌜ r ≡ countKeeps (now (fences .entry)) ⌝ }
+{
+    0 < fences.len() && fences.len() <= MAX_INTERVALS
+}
+
+pub(crate) fn length_keeps(metres: u32) -> bool
+    ensures { λ r. ⌜ r ≡ lengthKeeps metres ⌝ }
+{
+    0 < metres && metres <= MAX_LENGTH
+}
+
+// The first fence is 0, each is greater than the one before, and all lie below the day.
+pub(crate) fn fences_keep(fences: &[u32]) -> bool
+    ensures { λ r. ⌜ r ≡ fencesKeep (now (fences .entry)) ⌝ }
+{
+    if fences.len() == 0 {
+        return true;
+    }
+    if fences[0] != 0 {
+        return false;
+    }
+    let mut before = 0;
+    let mut i = 1;
+    while i < fences.len() {
+        let fence = fences[i];
+        if fence <= before {
+            return false;
+        }
+        if Tick::DAY <= fence {
+            return false;
+        }
+        before = fence;
+        i += 1;
+    }
+    true
+}
+
+pub(crate) fn speeds_keep(speeds: &[u8]) -> bool
+    ensures { λ r. ⌜ r ≡ every speedKeeps (now (speeds .entry)) ⌝ }
+{
+    let mut i = 0;
+    while i < speeds.len() {
+        if MAX_SPEED < speeds[i] {
+            return false;
+        }
+        i += 1;
+    }
+    true
+}

@@ -1,9 +1,15 @@
 pub mod Arrival
+pub mod Certificate
 pub mod Covered
+pub mod Demands
 pub mod Distinct
+pub mod Improvement
 pub mod IntervalWalk
 pub mod Least
+pub mod Networks
+pub mod OnlyTables
 pub mod Passed
+pub mod Predecessors
 pub mod Rules
 pub mod Tests
 pub mod Walks

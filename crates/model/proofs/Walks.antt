@@ -1,15 +1,87 @@
--- Walks of a sound net. Each has one that arrives no later and visits no junction twice, and so has fewer arcs than the net has
--- junctions: where a walk comes back to a junction, it goes on from its first visit, which was earlier. Waiting gains nothing.
-use Prim.Native.Nat.{ℕ, _≤_, _<_}
+-- Walks of a sound net. Waiting gains nothing, so labels are earliest if no plain walk arrives sooner. Each walk has one that
+-- arrives no later and visits no junction twice, and so no more junctions than there are: where a walk comes back to a
+-- junction, it goes on from its first visit, which was earlier.
+use Prim.Native.Nat.{ℕ, _-_, _≤_, _<_}
 use mathlib.Core.Path.{_≡_, sym, subst}
 use mathlib.Core.Logic.{inl, inr}
 use mathlib.Core.List.{List, [], _∷_}
+use native.Mathlib.Nat.{le-antisymm}
 use native.Mathlib.Decide.{decLt}
 use native.Mathlib.Omega.{arith}
 use lib.ListN.{length}
 use Rattle.model.specs.Ticks.{never}
-use Rattle.model.specs.Walks.{Net, Sound, Arrives, start, along, ArrivesWaiting}
+use Rattle.model.specs.Walks.{Net, Sound, Arrives, start, along, ArrivesWaiting, Earliest}
 use Rattle.model.proofs.Distinct.{Member, Distinct, member?, distinct-length}
+
+-- ---- Arcs
+
+module _ {N : Net} (sound : Sound N) (a t : ℕ) (is-arc : a < N .arcs) where
+  -- Who leaves at never, or later, never arrives.
+  pub drive-never : never ≤ t → N .drive a t ≡ never
+  drive-never late =
+      let before : ℕ = never - 1 in
+      omega (arith, sound .later a before is-arc (omega arith), sound .monotone a before t is-arc (omega arith), sound .at-most-never a t is-arc)
+
+  -- Who arrives has left before.
+  pub left-before : N .drive a t < never → t < N .drive a t
+  left-before arrives = go (decLt t never)
+    where
+      go : Dec (t < never) → t < N .drive a t
+      go (yes below) = sound .later a t is-arc below
+      go (no late) = absurd (omega (arith, drive-never (omega arith)))
+
+-- ---- Ticks of a walk
+
+pub arrives-below-never : {N : Net} {source departure j t : ℕ} → departure < never → Arrives N source departure j t → t < never
+arrives-below-never departs start = departs
+arrives-below-never departs (along a is-arc w arrives) = arrives
+
+module _ {N : Net} (sound : Sound N) {source departure : ℕ} where
+  pub arrives-from-departure : {j t : ℕ} → Arrives N source departure j t → departure ≤ t
+  arrives-from-departure start = omega arith
+  arrives-from-departure (along a {t = t} is-arc w arrives) =
+      omega (arith, arrives-from-departure w, left-before sound a t is-arc arrives)
+
+  pub waiting-no-sooner : {j t : ℕ} → ArrivesWaiting N source departure j t → (u : ℕ) × Arrives N source departure j u × (u ≤ t)
+  waiting-no-sooner start = (departure, start, omega arith)
+  waiting-no-sooner (along a {t = t} u is-arc w waits arrives) = go (waiting-no-sooner w)
+    where
+      go : (s : ℕ) × Arrives N source departure (N .tail a) s × (s ≤ t) → (s : ℕ) × Arrives N source departure (N .head a) s × (s ≤ N .drive a u)
+      go (s, v, sooner) =
+          let no-later : N .drive a s ≤ N .drive a u = sound .monotone a s u is-arc (omega arith) in
+          (N .drive a s, along a is-arc v (omega arith), no-later)
+
+-- ---- Earliest labels
+
+module _ {N : Net} {source departure : ℕ} where
+  -- Labels that walks attain, and before which none arrives, are earliest.
+  pub are-earliest : Sound N → departure < never → {label : ℕ → ℕ} →
+      ((j : ℕ) → j < N .junctions → label j < never → Arrives N source departure j (label j)) →
+      ((j t : ℕ) → Arrives N source departure j t → label j ≤ t) → Earliest N source departure label
+  are-earliest sound departs attained no-sooner = record {
+    attained = attained;
+    no-sooner = no-sooner;
+    no-sooner-waiting = λ j t w. let (u, v, sooner) = waiting-no-sooner sound w in omega (arith, no-sooner j u v);
+    unreached = λ j t none w. omega (arith, no-sooner j t w, arrives-below-never departs w);
+  }
+
+  -- A number up to never before which no walk arrives at a junction is at most its label.
+  pub bound-at-most-label : {label : ℕ → ℕ} → Earliest N source departure label → (j bound : ℕ) → j < N .junctions → bound ≤ never →
+      ((t : ℕ) → Arrives N source departure j t → bound ≤ t) → bound ≤ label j
+  bound-at-most-label {label} earliest j bound is-junction low no-sooner = go (decLt (label j) never)
+    where
+      go : Dec (label j < never) → bound ≤ label j
+      go (yes reached) = no-sooner (label j) (earliest .attained j is-junction reached)
+      go (no unreached) = omega arith
+
+  -- Two labellings that are earliest agree where they are at most never.
+  pub earliest-unique : {f g : ℕ → ℕ} → Earliest N source departure f → Earliest N source departure g → (j : ℕ) → j < N .junctions →
+      f j ≤ never → g j ≤ never → f j ≡ g j
+  earliest-unique {f} {g} of-f of-g j is-junction low-f low-g =
+      le-antisymm (bound-at-most-label of-g j (f j) is-junction low-f (of-f .no-sooner j))
+      (bound-at-most-label of-f j (g j) is-junction low-g (of-g .no-sooner j))
+
+-- ---- Walks without repetition
 
 -- The junctions that a walk visits, the last first.
 abbrev pub visited : {N : Net} {source departure j t : ℕ} → Arrives N source departure j t → List ℕ
@@ -20,51 +92,11 @@ pub visited-some : {N : Net} {source departure j t : ℕ} (w : Arrives N source 
 visited-some start = omega arith
 visited-some (along a is-arc w arrives) = omega arith
 
-pub arrives-below-never : {N : Net} {source departure j t : ℕ} → departure < never → Arrives N source departure j t → t < never
-arrives-below-never departs start = departs
-arrives-below-never departs (along a is-arc w arrives) = arrives
-
--- ---- Arcs and junctions
-
-module _ {N : Net} (sound : Sound N) where
-  pub drive-never : (a : ℕ) → a < N .arcs → N .drive a never ≡ never
-  drive-never a is-arc =
-      let tick : ℕ = 4294967294 in
-      omega (arith, sound .at-most-never a never is-arc, sound .later a tick is-arc (omega arith), sound .monotone a tick never is-arc (omega arith))
-
-  -- An arc that arrives was left at a tick.
-  pub left-below-never : (a t : ℕ) → a < N .arcs → N .drive a t < never → t < never
-  left-below-never a t is-arc arrives = go (decLt t never)
-    where
-      go : Dec (t < never) → t < never
-      go (yes below) = below
-      go (no above) = omega (arith, drive-never a is-arc, sound .monotone a never t is-arc (omega arith))
-
-  pub arrives-from-departure : {source departure j t : ℕ} → departure < never → Arrives N source departure j t → departure ≤ t
-  arrives-from-departure departs start = omega arith
-  arrives-from-departure departs (along a {t = t} is-arc w arrives) =
-      omega (arith, arrives-from-departure departs w, sound .later a t is-arc (arrives-below-never departs w))
-
-  pub arrives-inside : {source departure j t : ℕ} → source < N .junctions → Arrives N source departure j t → j < N .junctions
-  arrives-inside inside start = inside
-  arrives-inside inside (along a is-arc w arrives) = sound .head-below a is-arc
-
-  pub visited-inside : {source departure j t : ℕ} → source < N .junctions → (w : Arrives N source departure j t) (i : ℕ) → Member i (visited w) → i < N .junctions
-  visited-inside inside start i (inl e) = omega arith
-  visited-inside inside start i (inr m) = absurd m
-  visited-inside inside (along a is-arc w arrives) i (inl e) = omega (arith, sound .head-below a is-arc)
-  visited-inside inside (along a is-arc w arrives) i (inr m) = visited-inside inside w i m
-
-  pub waiting-no-sooner : {source departure j t : ℕ} → ArrivesWaiting N source departure j t → (u : ℕ) × Arrives N source departure j u × (u ≤ t)
-  waiting-no-sooner {departure = departure} start = (departure, start, omega arith)
-  waiting-no-sooner {source} {departure} (along a {t = t} u is-arc w waits arrives) = go (waiting-no-sooner w)
-    where
-      go : (s : ℕ) × Arrives N source departure (N .tail a) s × (s ≤ t) → (s : ℕ) × Arrives N source departure (N .head a) s × (s ≤ N .drive a u)
-      go (s, v, sooner) =
-          let no-later : N .drive a s ≤ N .drive a u = sound .monotone a s u is-arc (omega arith) in
-          (N .drive a s, along a is-arc v (omega arith), no-later)
-
--- ---- Walks without repetition
+visited-inside : {N : Net} {source departure j t : ℕ} → Sound N → source < N .junctions → (w : Arrives N source departure j t) (i : ℕ) → Member i (visited w) → i < N .junctions
+visited-inside sound inside start i (inl e) = omega arith
+visited-inside sound inside start i (inr m) = absurd m
+visited-inside sound inside (along a is-arc w arrives) i (inl e) = omega (arith, sound .head-below a is-arc)
+visited-inside sound inside (along a is-arc w arrives) i (inr m) = visited-inside sound inside w i m
 
 -- A walk to the junction that arrives by the tick and visits no junction twice.
 pub record Simple (N : Net) (source departure j t : ℕ) : Type 0 where
@@ -87,25 +119,24 @@ module _ {N : Net} {source departure : ℕ} where
 pub simple-length : {N : Net} {source departure j t : ℕ} → Sound N → source < N .junctions → (s : Simple N source departure j t) → length (visited (s .walk)) ≤ N .junctions
 simple-length {N} sound inside s = distinct-length (N .junctions) (visited (s .walk)) (visited-inside sound inside (s .walk)) (s .distinct)
 
-module _ {N : Net} (sound : Sound N) {source departure : ℕ} (departs : departure < never) where
+module _ {N : Net} (sound : Sound N) {source departure : ℕ} where
   -- The part of a walk up to its visit of j.
   up-to : (j : ℕ) {i t : ℕ} (w : Arrives N source departure i t) → Member j (visited w) → Distinct (visited w) → Simple N source departure j t
   up-to j start (inl e) d = rename e (exactly start d)
   up-to j start (inr m) d = absurd m
   up-to j (along a is-arc w arrives) (inl e) d = rename e (exactly (along a is-arc w arrives) d)
-  up-to j (along a {t = t} is-arc w arrives) (inr m) d =
-      relax (up-to j w m (d .1)) (omega (arith, sound .later a t is-arc (arrives-below-never departs w)))
+  up-to j (along a {t = t} is-arc w arrives) (inr m) d = relax (up-to j w m (d .1)) (omega (arith, left-before sound a t is-arc arrives))
 
   -- One arc more, unless its head is visited already.
-  extend : (a : ℕ) {t : ℕ} → a < N .arcs → t < never → N .drive a t < never → Simple N source departure (N .tail a) t → Simple N source departure (N .head a) (N .drive a t)
-  extend a {t} is-arc below arrives s = go (member? (N .head a) (visited (s .walk)))
+  extend : (a : ℕ) {t : ℕ} → a < N .arcs → N .drive a t < never → Simple N source departure (N .tail a) t → Simple N source departure (N .head a) (N .drive a t)
+  extend a {t} is-arc arrives s = go (member? (N .head a) (visited (s .walk)))
     where
       go : Dec (Member (N .head a) (visited (s .walk))) → Simple N source departure (N .head a) (N .drive a t)
-      go (yes m) = relax (up-to (N .head a) (s .walk) m (s .distinct)) (omega (arith, sound .later a t is-arc below))
+      go (yes m) = relax (up-to (N .head a) (s .walk) m (s .distinct)) (omega (arith, left-before sound a t is-arc arrives))
       go (no new) =
           let sooner : N .drive a (s .tick) ≤ N .drive a t = sound .monotone a (s .tick) t is-arc (s .no-later) in
           relax (exactly (along a is-arc (s .walk) (omega arith)) (new, s .distinct)) sooner
 
   pub shorten : {j t : ℕ} → Arrives N source departure j t → Simple N source departure j t
   shorten start = exactly start (λ m. m, tt)
-  shorten (along a is-arc w arrives) = extend a is-arc (arrives-below-never departs w) arrives (shorten w)
+  shorten (along a is-arc w arrives) = extend a is-arc arrives (shorten w)

@@ -12,7 +12,7 @@ use lib.Seq.{getD-set-same, getD-set-other, set-out}
 use Rattle.model.specs.Ticks.{never}
 use Rattle.model.specs.Walks.{Net, Sound, Arrives, start, along}
 use Rattle.model.specs.Labels.{offer, offers, within}
-use Rattle.model.proofs.Walks.{visited, visited-some, left-below-never}
+use Rattle.model.proofs.Walks.{left-before, visited, visited-some}
 
 -- ---- Lists
 
@@ -144,7 +144,8 @@ module _ (N : Net) (sound : Sound N) (source departure : ℕ) where
       go (inl stays) = rw stays (so-far j (omega arith))
       go (inr (e, lowered, less)) =
           let arrives : offered N old a < never = omega arith in
-          rw (lowered, e) (along a is-arc (reached (N .tail a) (left-below-never sound a (getD old (N .tail a) never) is-arc arrives)) arrives)
+          let left : getD old (N .tail a) never < offered N old a = left-before sound a (getD old (N .tail a) never) is-arc arrives in
+          rw (lowered, e) (along a is-arc (reached (N .tail a) (omega arith)) arrives)
 
   offers-attained : (old : List ℕ) → Attained old → (k : ℕ) → k ≤ N .arcs → Attained (offers N old k)
   unfolding offers

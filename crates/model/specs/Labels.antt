@@ -86,7 +86,7 @@ LabelsAreEarliest = (N : Net) → Sound N → (source departure : ℕ) → sourc
 
 -- The labels and the predecessors are the only tables that satisfy the conditions.
 abbrev pub OnlyTables : Type 0
-OnlyTables = (N : Net) → Sound N → N .arcs ≤ noArc → (source departure : ℕ) → source < N .junctions → departure < never →
+OnlyTables = (N : Net) → Sound N → (source departure : ℕ) → source < N .junctions → departure < never →
     (labels predecessors : List ℕ) →
     (Certified N source departure labels predecessors × Lowest N source labels predecessors)
     ↔ ((labels ≡ labelsOf N source departure) × (predecessors ≡ predecessorsOf N source departure))

@@ -1,0 +1,64 @@
+-- An accepted network is a sound net, by the laws of the arrival; and one that improves on another is a better net: of every tick
+-- its speed is no lower, since the tick lies in the same interval.
+use Prim.Native.Nat.{ℕ, _*_, _≤_, _<_}
+use mathlib.Core.Path.{_≡_, ap}
+use mathlib.Core.List.{List}
+use native.Mathlib.Decide.{decLt}
+use native.Mathlib.Omega.{arith}
+use lib.ListN.{length, getD, drop, length-take, List·getD-eq-default}
+use Rattle.model.specs.Flow.{spansOf}
+use Rattle.model.specs.Intervals.{interval, speedAt}
+use Rattle.model.specs.Walks.{Sound}
+use Rattle.model.specs.Network.{Network, Accepted, arcs, intervals, speedsOf, driveOf, netOf}
+use Rattle.model.specs.Demands.{Improves}
+use Rattle.model.proofs.Arrival.{arrival-is-later, arrival-is-monotone, non-passing, arrival-at-most-never}
+use Rattle.model.proofs.Improvement.{Better}
+
+pub accepted-sound : (N : Network) → Accepted N → Sound (netOf N)
+unfolding driveOf
+accepted-sound N accepted = record {
+  tail-below = accepted .tail-below;
+  head-below = accepted .head-below;
+  later = λ a t is-arc below. arrival-is-later (speed a) (spans a) t (omega (arith, accepted .some-length a is-arc)) below;
+  monotone = λ a s t is-arc earlier. non-passing (speed a) (spans a) s t earlier;
+  at-most-never = λ a t is-arc. arrival-at-most-never (speed a) (spans a) t;
+}
+  where
+    speed : ℕ → ℕ → ℕ
+    speed a = speedAt (N .fences) (speedsOf N a)
+
+    spans : ℕ → ℕ
+    spans a = spansOf (getD (N .lengths) a 0)
+
+module _ (A B : Network) (improves : Improves A B) where
+  -- Past the last interval there is no speed at all.
+  speed-no-lower : (a k : ℕ) → a < arcs A → getD (speedsOf A a) k 0 ≤ getD (speedsOf B a) k 0
+  speed-no-lower a k is-arc = go (decLt k (intervals A))
+    where
+      go : Dec (k < intervals A) → getD (speedsOf A a) k 0 ≤ getD (speedsOf B a) k 0
+      go (yes inside) = improves .no-slower a k is-arc inside
+      go (no outside) =
+          let short : length (speedsOf A a) ≤ k = omega (arith, length-take (intervals A) (drop (a * intervals A) (A .speeds))) in
+          omega (arith, List·getD-eq-default (speedsOf A a) 0 short)
+
+  tick-no-slower : (a t : ℕ) → a < arcs A → speedAt (A .fences) (speedsOf A a) t ≤ speedAt (B .fences) (speedsOf B a) t
+  unfolding speedAt
+  tick-no-slower a t is-arc =
+      let same : interval (A .fences) t ≡ interval (B .fences) t = ap (λ (fences : List ℕ). interval fences t) (improves .same-fences) in
+      rw (← same) (speed-no-lower a (interval (A .fences) t) is-arc)
+
+  pub drive-no-later : (a s t : ℕ) → a < arcs A → s ≤ t → driveOf B a s ≤ driveOf A a t
+  unfolding driveOf
+  drive-no-later a s t is-arc earlier =
+      arrival-is-monotone (speedAt (B .fences) (speedsOf B a)) (speedAt (A .fences) (speedsOf A a))
+      (spansOf (getD (B .lengths) a 0)) (spansOf (getD (A .lengths) a 0)) s t earlier (omega (arith, improves .no-longer a is-arc))
+      (λ u. tick-no-slower a u is-arc)
+
+  pub improves-better : Better (netOf A) (netOf B)
+  improves-better = record {
+    more-junctions = improves .more-junctions;
+    more-arcs = improves .more-arcs;
+    same-tail = improves .same-tail;
+    same-head = improves .same-head;
+    no-later = drive-no-later;
+  }

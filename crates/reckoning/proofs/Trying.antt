@@ -6,10 +6,12 @@ use mathlib.Core.Bool.{true, false, cond}
 use mathlib.Core.List.{List, [], _∷_, _++_}
 use mathlib.Core.Logic.{⊎-elim}
 use mathlib.Core.Option.{none, some}
-use native.Mathlib.Nat.{eq-zero-or-pos, mul-zero, mul-le-mul, div-lt-iff-lt-mul, le-of-lt}
+use native.Mathlib.Nat.{eq-zero-or-pos, mul-zero, mul-le-mul, div-lt-iff-lt-mul, div-le-self, le-of-lt}
 use native.Mathlib.Numerals.{add-one}
 use native.Mathlib.Omega.{arith}
-use lib.Dec.{leb, ltb}
+use mir.Syntax.{w8, w32}
+use mir.Val.{Fits}
+use lib.Dec.{leb}
 use lib.ListN.{length, getD, drop, length-drop, length-append, drop-of-length-le}
 use lib.Seq.{drop-cons}
 use borrow.Author.Tests.{le-leb, lt-leb}
@@ -46,6 +48,27 @@ module _ (fences : List ℕ) (kept : FencesKept fences) (k : ℕ) (inside : k < 
       (λ h. rw (add-one (k + 1)) (omega (arith, kept .rising (k + 1) (rw (add-one (k + 1)) at h))))
       (omega (arith, kept .below-day (k + 1) more)))
 
+-- ---- What keeps the arithmetic within 32 bits
+
+pub product-fits : {n speed : ℕ} → n ≤ last → Fits w8 speed → Fits w32 (n * speed)
+product-fits {n} {speed} short byte =
+    let most : speed ≤ 255 = omega (arith, byte) in
+    omega (arith, mul-le-mul {n₂ = last} {m₂ = 255} short most)
+
+pub some-factor : (left n speed : ℕ) → 1 ≤ left → left ≤ n * speed → 0 < speed
+some-factor left n speed any covered =
+    ⊎-elim (λ z. absurd (omega (arith, mul-zero n, ap (λ (m : ℕ). n * m) z))) (λ p. p) (eq-zero-or-pos speed)
+
+-- a sum of spans and of less than a tick's spans
+pub sum-short : (left speed m : ℕ) → left ≤ 3600000 → Fits w8 speed → left + (speed - m) ≤ 4000000
+sum-short left speed m fits byte = omega (arith, byte)
+
+pub short-fits : {n : ℕ} → n ≤ 4000000 → Fits w32 n
+short-fits h = omega arith
+
+pub quotient-fits : (at n speed : ℕ) → at ≤ last → n ≤ 4000000 → Fits w32 (at + n / speed)
+quotient-fits at n speed in-time short = omega (arith, div-le-self n speed)
+
 -- ---- The loop's state
 
 pub record Trying (fences speeds : List ℕ) (total k at left : ℕ) : Type 0 where
@@ -59,9 +82,12 @@ pub record Trying (fences speeds : List ℕ) (total k at left : ℕ) : Type 0 wh
 abbrev pub asked : ℕ → ℕ → List ℕ → List ℕ → ℕ
 asked departure metres fences speeds = arrival (speedAt fences speeds) (spansOf metres) departure
 
+pub interval-inside : {departure interval metres : ℕ} {fences speeds : List ℕ} → Drivable departure interval metres fences speeds → interval < length fences
+interval-inside {departure} {fences} d = omega (arith, passed-at-most fences departure, d .in-interval)
+
 pub trying-starts : (departure interval metres : ℕ) (fences speeds : List ℕ) → Drivable departure interval metres fences speeds → Trying fences speeds (asked departure metres fences speeds) interval departure (36 * metres)
 trying-starts departure interval metres fences speeds d =
-    let reached : interval < length fences = omega (arith, passed-at-most fences departure, d .in-interval) in
+    let reached = interval-inside d in
     record {
       inside = reached;
       before-end = by-end fences interval (λ e. departure ≤ e) reached
@@ -85,12 +111,6 @@ module _ {departure interval metres : ℕ} {fences speeds : List ℕ} (d : Driva
   pub end-fits : (at ≤ end) × (end ≤ last)
   end-fits = rw end-is (trying .before-end, end-in-time fences (d .fences-kept) k (trying .inside))
 
-  pub speed-fits : speed ≤ 200
-  speed-fits = d .speed-fits k (omega (arith, trying .inside, d .as-many))
-
-  pub room-fits : room ≤ 345600000
-  room-fits = mul-le-mul {n₂ = 1728000} {m₂ = 200} (omega (arith, end-fits)) speed-fits
-
   turn : cond (leb left room) (at + ticksFor left speed) (tries (drop (suc k) (endsOf fences)) (drop (suc k) speeds) end (left - room)) ≡ total
   unfolding tries
   turn =
@@ -99,11 +119,10 @@ module _ {departure interval metres : ℕ} {fences speeds : List ℕ} (d : Driva
 
   -- The spans left are covered here.
   module _ (covered : left ≤ room) where
-    pub moving : 0 < speed
-    moving = ⊎-elim (λ z. absurd (omega (arith, mul-zero (end - at), ap (λ (n : ℕ). (end - at) * n) z, trying .some-left))) (λ p. p) (eq-zero-or-pos speed)
-
-    pub ticks-fit : at + ticksFor left speed ≤ last
-    ticks-fit = omega (arith, div-lt-iff-lt-mul {x = left + (speed - 1)} {y = end - at + 1} moving .1 (omega (arith, moving)), end-fits)
+    ticks-fit : at + ticksFor left speed ≤ last
+    ticks-fit =
+        let moving = some-factor left (end - at) speed (trying .some-left) covered in
+        omega (arith, div-lt-iff-lt-mul {x = left + (speed - 1)} {y = end - at + 1} moving .1 (omega arith), end-fits)
 
     pub arrives-here : some (at + ticksFor left speed) ≡ tick? total
     arrives-here =

@@ -6,6 +6,7 @@ pub mod Distinct
 pub mod Improvement
 pub mod IntervalWalk
 pub mod Least
+pub mod NetworkRules
 pub mod Networks
 pub mod OnlyTables
 pub mod Passed

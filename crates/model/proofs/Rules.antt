@@ -1,16 +1,17 @@
 -- The rules' tests and their plain statements: a check replies where no test fires, and each test that runs through a table
 -- fires unless its rule holds at every entry.
-use Prim.Native.Nat.{ℕ, zero, suc, _<_}
-use mathlib.Core.Path.{_≡_, refl}
-use mathlib.Core.Bool.{Bool, true, false, _&&_, cond}
+use Prim.Native.Nat.{ℕ, zero, suc, _≤_, _<_}
+use mathlib.Core.Path.{_≡_, refl, ap}
+use mathlib.Core.Bool.{Bool, true, false, not, _&&_, cond}
 use mathlib.Core.List.{List, [], _∷_}
 use native.Mathlib.Omega.{arith}
-use lib.Dec.{ltb, eqb}
+use lib.Dec.{leb, ltb, eqb}
 use lib.ListN.{length, getD, take}
-use borrow.Author.Tests.{ltb-true, eqb-true, lt-ltb, eq-eqb}
+use borrow.Author.Tests.{not-false, ltb-true, leb-true, eqb-true, lt-ltb, le-leb, eq-eqb}
 use Rattle.model.specs.Ticks.{day}
+use Rattle.model.specs.Limits.{maxIntervals, maxLength}
 use Rattle.model.specs.Intervals.{FencesKept}
-use Rattle.model.specs.Rules.{Outcome, refused, replied, Rule, _if_, firstBroken, every, riseFrom, fencesKeep}
+use Rattle.model.specs.Rules.{Outcome, refused, replied, Rule, _if_, firstBroken, every, riseFrom, countKeeps, fencesKeep, lengthKeeps}
 
 -- ---- Which rule counts
 
@@ -57,6 +58,22 @@ both-true p q = rw (p, q)
 pub true-both : (a b : Bool) → (a && b) ≡ true → (a ≡ true) × (b ≡ true)
 true-both true b e = (refl, e)
 true-both false b e = absurd (let z : _≡_ {A = ℕ} 0 1 = cc in omega arith)
+
+pub kept-count : (fences : List ℕ) → not (countKeeps fences) ≡ false → (1 ≤ length fences) × (length fences ≤ maxIntervals)
+kept-count fences e =
+    let parts = true-both (ltb 0 (length fences)) (leb (length fences) maxIntervals) (not-false (countKeeps fences) e) in
+    (ltb-true 0 (length fences) (parts .0), leb-true (length fences) maxIntervals (parts .1))
+
+pub count-kept : (fences : List ℕ) → 1 ≤ length fences → length fences ≤ maxIntervals → not (countKeeps fences) ≡ false
+count-kept fences some few = ap not (both-true (lt-ltb 0 (length fences) some) (le-leb (length fences) maxIntervals few))
+
+pub kept-length : (metres : ℕ) → lengthKeeps metres ≡ true → (1 ≤ metres) × (metres ≤ maxLength)
+kept-length metres e =
+    let parts = true-both (ltb 0 metres) (leb metres maxLength) e in
+    (ltb-true 0 metres (parts .0), leb-true metres maxLength (parts .1))
+
+pub length-kept : (metres : ℕ) → 1 ≤ metres → metres ≤ maxLength → lengthKeeps metres ≡ true
+length-kept metres some fits = both-true (lt-ltb 0 metres some) (le-leb metres maxLength fits)
 
 -- ---- Tests that run through a table
 

@@ -4,6 +4,7 @@ pub mod Intervals
 pub mod Labels
 pub mod Limits
 pub mod Network
+pub mod NetworkRules
 pub mod Refusals
 pub mod Rules
 pub mod Ticks

@@ -16,6 +16,17 @@ pub record Network : Type 0 where
   pub lengths : List ℕ
   pub speeds : List ℕ
 
+-- The network of a junction count and five tables.
+abbrev pub network : ℕ → List ℕ → List ℕ → List ℕ → List ℕ → List ℕ → Network
+network junctions fences tails heads lengths speeds = record {
+  junctions = junctions;
+  fences = fences;
+  tails = tails;
+  heads = heads;
+  lengths = lengths;
+  speeds = speeds;
+}
+
 -- "The arc count is the length of the tails."
 abbrev pub arcs : Network → ℕ
 arcs N = length (N .tails)

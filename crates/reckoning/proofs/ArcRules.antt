@@ -1,46 +1,44 @@
 -- Arc arrival's rules: no test fires exactly where the plain rules hold.
-use Prim.Native.Nat.{ℕ, _≤_, _<_}
-use mathlib.Core.Path.{_≡_, refl, sym, ap, _∙_}
-use mathlib.Core.Bool.{Bool, true, false, not}
+use Prim.Native.Nat.{ℕ}
+use mathlib.Core.Path.{_≡_, sym, ap, _∙_}
+use mathlib.Core.Bool.{not}
 use mathlib.Core.List.{List}
 use mathlib.Core.Option.{Option}
-use native.Mathlib.Omega.{arith}
-use lib.Dec.{leb, ltb, eqb}
+use lib.Dec.{eqb}
 use lib.ListN.{length, getD}
-use borrow.Author.Tests.{not-false, ltb-true, leb-true, eqb-true, ltb-false, lt-ltb, le-leb, eq-eqb, le-ltb}
+use borrow.Author.Tests.{not-false, leb-true, eqb-true, ltb-false, le-leb, eq-eqb, le-ltb}
 use Rattle.model.specs.Ticks.{last, tick?}
-use Rattle.model.specs.Limits.{maxIntervals, maxLength}
 use Rattle.model.specs.Flow.{spansOf, arrival}
 use Rattle.model.specs.Intervals.{speedAt}
-use Rattle.model.specs.Rules.{Outcome, replied, every, countKeeps, fencesKeep, lengthKeeps, speedKeeps, firstBroken}
-use Rattle.model.proofs.Rules.{AllKept, kept-replies, replies-kept, true-both, both-true, every-at, at-every, fences-kept, kept-fences}
+use Rattle.model.specs.Rules.{replied, every, fencesKeep, lengthKeeps, speedKeeps}
+use Rattle.model.proofs.Rules.{AllKept, kept-replies, replies-kept, kept-count, count-kept, kept-length, length-kept, every-at, at-every, fences-kept, kept-fences}
 use Rattle.reckoning.specs.ArcArrival.{arcRules, arcArrival, ArcAccepted, ArcRepliesWhenAccepted}
 
 module _ (departure metres : ℕ) (fences speeds : List ℕ) where
   pub kept-accepted : AllKept (arcRules departure metres fences speeds) → ArcAccepted departure metres fences speeds
   kept-accepted kept =
-      let count = true-both (ltb 0 (length fences)) (leb (length fences) maxIntervals) (not-false (countKeeps fences) (kept .0)) in
-      let size = true-both (ltb 0 metres) (leb metres maxLength) (not-false (lengthKeeps metres) (kept .1 .1 .1 .0)) in
+      let count = kept-count fences (kept .0) in
+      let size = kept-length metres (not-false (lengthKeeps metres) (kept .1 .1 .1 .0)) in
       record {
-        some-interval = ltb-true 0 (length fences) (count .0);
-        intervals-fit = leb-true (length fences) maxIntervals (count .1);
+        some-interval = count .0;
+        intervals-fit = count .1;
         as-many = eqb-true (length speeds) (length fences) (not-false (eqb (length speeds) (length fences)) (kept .1 .0));
         fences-kept = fences-kept fences (not-false (fencesKeep fences) (kept .1 .1 .0));
-        some-length = ltb-true 0 metres (size .0);
-        length-fits = leb-true metres maxLength (size .1);
+        some-length = size .0;
+        length-fits = size .1;
         speed-fits = λ k h. leb-true (getD speeds k 0) 200 (every-at speedKeeps 0 speeds (not-false (every speedKeeps speeds) (kept .1 .1 .1 .1 .0)) k h);
         in-time = ltb-false last departure (kept .1 .1 .1 .1 .1 .0);
       }
 
   pub accepted-kept : ArcAccepted departure metres fences speeds → AllKept (arcRules departure metres fences speeds)
   accepted-kept a = (
-    ap not (both-true (lt-ltb 0 (length fences) (a .some-interval)) (le-leb (length fences) maxIntervals (a .intervals-fit))),
+    count-kept fences (a .some-interval) (a .intervals-fit),
     (
       ap not (eq-eqb (length speeds) (length fences) (a .as-many)),
       (
         ap not (kept-fences fences (a .fences-kept)),
         (
-          ap not (both-true (lt-ltb 0 metres (a .some-length)) (le-leb metres maxLength (a .length-fits))),
+          ap not (length-kept metres (a .some-length) (a .length-fits)),
           (ap not (at-every speedKeeps 0 speeds (λ k h. le-leb (getD speeds k 0) 200 (a .speed-fits k h))), (le-ltb last departure (a .in-time), tt)),
         ),
       ),

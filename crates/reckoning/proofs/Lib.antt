@@ -1,4 +1,5 @@
 pub mod ArcRules
+pub mod Flags
 pub mod Intervals
 pub mod Scan
 pub mod Trying

@@ -1,2 +1,3 @@
 pub mod ArcArrival
 pub mod Drive
+pub mod NetworkCheck

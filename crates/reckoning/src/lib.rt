@@ -3,3 +3,4 @@
 pub mod arc;
 mod check;
 mod drive;
+pub mod network;

@@ -3,7 +3,7 @@
 use borrow.Author.Needs.{needs}
 use Prim.Native.Nat.{_<_}
 use mathlib.Core.Path.{_≡_, sym, ap, _∙_}
-use mathlib.Core.Bool.{Bool, true, false, not}
+use mathlib.Core.Bool.{not}
 use mathlib.Core.List.{List}
 use native.Mathlib.Omega.{arith}
 use lib.ListN.{take}
@@ -17,15 +17,12 @@ use Rattle.model.proofs.IntervalWalk.{some-passed}
 use Rattle.reckoning.specs.ArcArrival.{arcRules, arcArrival, ArcAccepted}
 use Rattle.reckoning.specs.Drive.{Drivable}
 use Rattle.reckoning.proofs.ArcRules.{kept-accepted, replies}
+use Rattle.reckoning.proofs.Flags.{as-test}
 use Rattle.reckoning.proofs.arc.arc_arrival.Statement.{statement}
 use Rattle.reckoning.proofs.arc.arc_arrival.Tie as tie
 
 abbrev rules : tie.Start → List Rule
 rules s = arcRules (s .args .departure .number) (s .args .metres) (now (s .args .fences)) (now (s .args .speeds))
-
--- a call's flag is the rule's test
-as-test : {flag test b : Bool} → flag ≡ test → not flag ≡ b → not test ≡ b
-as-test same e = ap not (sym same) ∙ e
 
 abbrev start₁ : tie.After-interval-count-keeps → tie.Start
 start₁ c = c .before .before .before

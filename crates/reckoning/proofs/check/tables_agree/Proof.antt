@@ -1,0 +1,32 @@
+-- `check::tables_agree` is the test `tablesAgree`: where one table's length differs, the whole fails.
+use mathlib.Core.Path.{_≡_, refl}
+use mathlib.Core.Bool.{Bool, true, _&&_}
+use native.Mathlib.Nat.{mul-le-mul}
+use native.Mathlib.Omega.{arith}
+use borrow.Author.Tests.{eq-eqb, ne-eqb}
+use Rattle.reckoning.proofs.check.tables_agree.Statement.{statement}
+use Rattle.reckoning.proofs.check.tables_agree.Tie as tie
+
+rest-decides : {a b t : Bool} → a ≡ true → b ≡ true → t ≡ (a && b && t)
+rest-decides p q = rw (p, q)
+
+returns : tie.Need-returns
+returns c = simp (ne-eqb _ _ (c .if1 .taken))
+
+returns-2 : tie.Need-returns-2
+returns-2 c = simp (eq-eqb _ _ (c .before .if1 .left), ne-eqb _ _ (c .if2 .taken))
+
+mul-result : tie.Need-mul-result
+mul-result c = omega (arith, mul-le-mul {n₂ = 640} {m₂ = 96} (c .before .before .pre .1) (c .before .before .pre .0))
+
+returns-3 : tie.Need-returns-3
+returns-3 c = rest-decides (eq-eqb _ _ (c .before .if1 .left)) (eq-eqb _ _ (c .if2 .left))
+
+pub tables-agree-spec : {M : Type 1} → statement M
+tables-agree-spec =
+    tie.close
+    (tie.spec
+    returns
+    returns-2
+    mul-result
+    returns-3)

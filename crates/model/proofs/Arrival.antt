@@ -1,12 +1,10 @@
 -- The laws of the arrival. The search keeps that no tick before it covered the spans, so it ends in `IsArrival`; two such
 -- numbers are equal; and the laws are read off `IsArrival`: who leaves later or is slower has covered no more by the same tick.
 use Prim.Native.Nat.{ℕ, zero, suc, _+_, _-_, _≤_, _<_}
-use mathlib.Core.Path.{_≡_, refl, sym, ap, subst}
-use mathlib.Core.Bool.{true, false}
-use mathlib.Core.Logic.{⊎-elim}
-use native.Mathlib.Nat.{le-refl, le-antisymm, lt-of-not-le, eq-or-lt-of-le}
+use mathlib.Core.Path.{_≡_, refl, sym, subst}
+use mathlib.Core.Logic.{_⊎_, inl, inr, ⊎-elim}
+use native.Mathlib.Nat.{le-refl, le-antisymm, eq-or-lt-of-le}
 use native.Mathlib.Omega.{arith}
-use lib.Dec.{leb}
 use Rattle.model.specs.Ticks.{last, never}
 use Rattle.model.specs.Flow.{covered, firstTick, arrival, IsArrival, ArrivalIsLeast, ArrivalIsLater, ArrivalIsMonotone, NonPassing}
 use Rattle.model.proofs.Tests.{leb-cases}
@@ -65,9 +63,9 @@ pub non-passing : NonPassing
 non-passing v spans s t earlier = arrival-is-monotone v v spans spans s t earlier (le-refl spans) (λ t. le-refl (v t))
 
 -- An arrival is a tick up to the last, or never.
-pub arrival-at-most-never : (v : ℕ → ℕ) (spans s : ℕ) → arrival v spans s ≤ never
-arrival-at-most-never v spans s = go (arrival-is v spans s)
+pub arrival-by-last : (v : ℕ → ℕ) (spans s : ℕ) → (arrival v spans s ≤ last) ⊎ (arrival v spans s ≡ never)
+arrival-by-last v spans s = go (arrival-is v spans s)
   where
-    go : {t : ℕ} → IsArrival v spans s t → t ≤ never
-    go (IsArrival.attained n in-time enough before) = omega arith
-    go (IsArrival.none never-enough) = le-refl never
+    go : {t : ℕ} → IsArrival v spans s t → (t ≤ last) ⊎ (t ≡ never)
+    go (IsArrival.attained n in-time enough before) = inl in-time
+    go (IsArrival.none never-enough) = inr refl

@@ -9,11 +9,11 @@ use mathlib.Core.List.{List}
 use mathlib.Core.Logic.{_⊎_, inl, inr}
 use lib.ListN.{getD}
 use lib.Seq.{ext-getD}
-use Rattle.model.specs.Ticks.{never}
+use Rattle.model.specs.Ticks.{last, never}
 use Rattle.model.specs.Walks.{Net, Sound, Arrives, start, along, Earliest}
 use Rattle.model.specs.Labels.{noArc, labelsOf, Attains, Certified}
-use Rattle.model.proofs.Walks.{left-before, are-earliest, earliest-unique}
-use Rattle.model.proofs.Least.{labels-length, labels-at-most-never, labels-are-earliest}
+use Rattle.model.proofs.Walks.{drive-by-last, left-before, are-earliest, earliest-unique}
+use Rattle.model.proofs.Least.{labels-length, labels-are-earliest}
 
 -- Labels that no arc would lower are no later than any walk.
 unlowered-no-sooner : {N : Net} → Sound N → {source departure : ℕ} (label : ℕ → ℕ) → label source ≤ departure →
@@ -26,14 +26,17 @@ unlowered-no-sooner {N} sound label first no-lower (along a {t = t} is-arc w arr
 
 -- ---- Arcs that attain a label
 
-module _ {N : Net} {labels : List ℕ} {j a : ℕ} (at : Attains N labels j a) where
-  attaining-sooner : Sound N → getD labels (N .tail a) never < getD labels j never
-  attaining-sooner sound = omega (arith, left-before sound a (getD labels (N .tail a) never) (at .is-arc) (omega arith))
+module _ {N : Net} (sound : Sound N) {labels : List ℕ} {j a : ℕ} (at : Attains N labels j a) where
+  attaining-by-last : N .drive a (getD labels (N .tail a) never) ≤ last
+  attaining-by-last = drive-by-last sound a (getD labels (N .tail a) never) (at .is-arc) λ none. omega arith
+
+  attaining-sooner : getD labels (N .tail a) never < getD labels j never
+  attaining-sooner = omega (arith, left-before sound a (getD labels (N .tail a) never) (at .is-arc) attaining-by-last)
 
   attaining-walk : {source departure : ℕ} → Arrives N source departure (N .tail a) (getD labels (N .tail a) never) →
       Arrives N source departure j (getD labels j never)
   attaining-walk {source} {departure} w =
-      subst₂ (Arrives N source departure) (at .into) (at .arrives) (along a (at .is-arc) w (omega arith))
+      subst₂ (Arrives N source departure) (at .into) (at .arrives) (along a (at .is-arc) w attaining-by-last)
 
 -- ---- Certified labels
 
@@ -50,32 +53,24 @@ module _ {N : Net} {source departure : ℕ} {labels predecessors : List ℕ} (ce
       go (yes e) = inl e
       go (no other) = inr (certified .others j is-junction other)
 
-  certified-at-most-never : departure < never → (j : ℕ) → j < N .junctions → getD labels j never ≤ never
-  certified-at-most-never departs j is-junction = go (certified-standing j is-junction)
-    where
-      go : Standing N source labels predecessors j → getD labels j never ≤ never
-      go (inl e) = rw e (omega arith)
-      go (inr (inl unreached)) = omega arith
-      go (inr (inr at)) = omega arith
-
-module _ {N : Net} (sound : Sound N) {source departure : ℕ} (departs : departure < never) {labels predecessors : List ℕ}
+module _ {N : Net} (sound : Sound N) {source departure : ℕ} (departs : departure ≤ last) {labels predecessors : List ℕ}
     (certified : Certified N source departure labels predecessors) where
   -- The predecessors lead back to the source in as many steps as the label has ticks, or fewer.
-  attained-within : (fuel j : ℕ) → getD labels j never < fuel → j < N .junctions → getD labels j never < never →
+  attained-within : (fuel j : ℕ) → getD labels j never < fuel → j < N .junctions → (getD labels j never ≡ never → ⊥) →
       Arrives N source departure j (getD labels j never)
   attained-within zero j less is-junction reached = absurd (omega arith)
   attained-within (suc k) j less is-junction reached = go (certified-standing certified j is-junction) (attained-within k)
     where
       go : Standing N source labels predecessors j →
-          ((i : ℕ) → getD labels i never < k → i < N .junctions → getD labels i never < never →
+          ((i : ℕ) → getD labels i never < k → i < N .junctions → (getD labels i never ≡ never → ⊥) →
           Arrives N source departure i (getD labels i never)) →
           Arrives N source departure j (getD labels j never)
       go (inl e) before = rw (e, certified .source-label) start
-      go (inr (inl unreached)) before = absurd (omega arith)
+      go (inr (inl unreached)) before = absurd (reached (unreached .0))
       go (inr (inr at)) before =
           let a = getD predecessors j noArc in
-          let sooner : getD labels (N .tail a) never < getD labels j never = attaining-sooner at sound in
-          attaining-walk at (before (N .tail a) (omega arith) (sound .tail-below a (at .is-arc)) (omega arith))
+          let sooner : getD labels (N .tail a) never < getD labels j never = attaining-sooner sound at in
+          attaining-walk sound at (before (N .tail a) (omega arith) (sound .tail-below a (at .is-arc)) λ none. omega arith)
 
   certified-earliest : Earliest N source departure (λ j. getD labels j never)
   certified-earliest =
@@ -83,10 +78,8 @@ module _ {N : Net} (sound : Sound N) {source departure : ℕ} (departs : departu
       (λ j t w. unlowered-no-sooner sound (λ i. getD labels i never) (omega arith) (certified .no-lower) w)
 
 -- So they are the labels.
-pub certified-labels : (N : Net) → Sound N → (source departure : ℕ) → source < N .junctions → departure < never →
+pub certified-labels : (N : Net) → Sound N → (source departure : ℕ) → source < N .junctions → departure ≤ last →
     (labels predecessors : List ℕ) → Certified N source departure labels predecessors → labels ≡ labelsOf N source departure
 certified-labels N sound source departure inside departs labels predecessors certified =
     ext-getD never labels (labelsOf N source departure) (omega (arith, labels-length N source departure)) λ j h.
-    let is-junction : j < N .junctions = omega arith in
-    earliest-unique (certified-earliest sound departs certified) (labels-are-earliest N sound source departure inside departs) j is-junction
-    (certified-at-most-never certified departs j is-junction) (labels-at-most-never N source departure departs j)
+    earliest-unique (certified-earliest sound departs certified) (labels-are-earliest N sound source departure inside departs) j (omega arith)

@@ -1,7 +1,7 @@
 -- The spans covered in some ticks: they add up over a pause in the counting, grow with the ticks and with the speeds, and at
 -- one speed are a product.
 use Prim.Native.Nat.{ℕ, zero, suc, _+_, _-_, _*_, _≤_, _<_}
-use mathlib.Core.Path.{_≡_, refl, ap, sym, _∙_}
+use mathlib.Core.Path.{_≡_, ap, sym}
 use native.Mathlib.Nat.{add-zero, add-suc, add-assoc, zero-mul, suc-mul, add-le-add, le-refl}
 use native.Mathlib.Omega.{arith}
 use Rattle.model.specs.Flow.{covered}

@@ -1,13 +1,14 @@
 -- A better net arrives no later: a walk of the worse net, taken on the better one, is never behind. So no label is later.
 use Prim.Native.Nat.{ℕ, _≤_, _<_}
 use native.Mathlib.Omega.{arith}
+use native.Mathlib.Decide.{ℕ-discrete}
 use mathlib.Core.Path.{_≡_}
 use lib.ListN.{getD}
-use Rattle.model.specs.Ticks.{never}
-use Rattle.model.specs.Walks.{Net, Sound, Arrives, start, along}
+use Rattle.model.specs.Ticks.{last, never}
+use Rattle.model.specs.Walks.{Net, Sound, Arrives, start, along, Earliest}
 use Rattle.model.specs.Labels.{labelsOf}
-use Rattle.model.proofs.Walks.{bound-at-most-label}
-use Rattle.model.proofs.Least.{labels-at-most-never, labels-no-sooner, labels-are-earliest}
+use Rattle.model.proofs.Walks.{earliest-at-most-never}
+use Rattle.model.proofs.Least.{labels-are-earliest}
 
 -- B has what A has, and an arc that is left no later on B than on A arrives no later.
 pub record Better (A B : Net) : Type 0 where
@@ -29,9 +30,18 @@ module _ {A B : Net} (better : Better A B) {source early late : ℕ} (no-later :
           (B .drive a s, sooner, rw (better .same-head a is-arc) v′)
 
 pub better-labels : (A B : Net) → Sound A → Sound B → Better A B → (source early late : ℕ) → source < A .junctions → early ≤ late →
-    late < never → (j : ℕ) → j < A .junctions → getD (labelsOf B source early) j never ≤ getD (labelsOf A source late) j never
+    late ≤ last → (j : ℕ) → j < A .junctions → getD (labelsOf B source early) j never ≤ getD (labelsOf A source late) j never
 better-labels A B sound-a sound-b better source early late inside no-later departs j is-junction =
-    bound-at-most-label (labels-are-earliest A sound-a source late inside departs) j (getD (labelsOf B source early) j never) is-junction
-    (labels-at-most-never B source early (omega arith) j) λ t w.
-    let (u, sooner, v) = better-walk better no-later w in
-    omega (arith, labels-no-sooner B sound-b source early (omega arith) j u v)
+    go (ℕ-discrete (getD (labelsOf A source late) j never) never)
+  where
+    of-a : Earliest A source late (λ i. getD (labelsOf A source late) i never)
+    of-a = labels-are-earliest A sound-a source late inside departs
+
+    of-b : Earliest B source early (λ i. getD (labelsOf B source early) i never)
+    of-b = labels-are-earliest B sound-b source early (omega arith) (omega arith)
+
+    go : Dec (getD (labelsOf A source late) j never ≡ never) → getD (labelsOf B source early) j never ≤ getD (labelsOf A source late) j never
+    go (yes unreached) = omega (arith, earliest-at-most-never (omega arith) of-b j (omega arith))
+    go (no reached) =
+        let (u, sooner, v) = better-walk better no-later (of-a .attained j is-junction reached) in
+        omega (arith, of-b .no-sooner j u v)

@@ -1,19 +1,17 @@
 -- Going interval by interval gives the arrival tick by tick. Where the speed is steady up to an interval's end, either the
 -- spans left are covered there, after as many ticks as the quotient rounded up (`stop`), or the arrival is that from the
 -- interval's end on with what is left (`skip`). The walk is an induction over the intervals.
-use Prim.Native.Nat.{ℕ, zero, suc, _+_, _-_, _*_, _/_, _≤_, _<_}
-use mathlib.Core.Path.{_≡_, refl, sym, ap, _∙_, subst}
-use mathlib.Core.Bool.{true, false}
+use Prim.Native.Nat.{ℕ, suc, _+_, _-_, _*_, _≤_, _<_}
+use mathlib.Core.Path.{_≡_, ap, _∙_, subst}
 use mathlib.Core.List.{List, [], _∷_, _++_}
 use mathlib.Core.Logic.{⊎-elim}
 use native.Mathlib.Nat.{add-zero, add-suc, eq-zero-or-pos, div-lt-iff-lt-mul, le-div-iff-mul-le, mul-zero, suc-inj, le-of-lt}
 use native.Mathlib.Numerals.{one-add}
 use native.Mathlib.Omega.{arith}
-use lib.Dec.{leb}
 use lib.ListN.{length, getD, drop, length-drop}
 use lib.Seq.{getD-drop, drop-drop, drop-append-le}
 use borrow.Author.Tests.{le-leb, lt-leb}
-use Rattle.model.specs.Ticks.{last, never}
+use Rattle.model.specs.Ticks.{last}
 use Rattle.model.specs.Flow.{covered, arrival, IsArrival}
 use Rattle.model.specs.Intervals.{FencesKept, passed, interval, speedAt, ticksFor, tries, endsOf, intervalWalk, WalkIsArrival}
 use Rattle.model.proofs.Tests.{leb-cases}

@@ -8,18 +8,14 @@ use Rattle.model.specs.Ticks.{never}
 use Rattle.model.specs.Walks.{Net, Sound, Arrives}
 use Rattle.model.specs.Labels.{labelsOf, LabelsAreEarliest}
 use Rattle.model.proofs.Walks.{are-earliest, visited, Simple, shorten, simple-length}
-use Rattle.model.proofs.Within.{within-length, within-at-most-never, within-attained, within-no-sooner}
+use Rattle.model.proofs.Within.{within-length, within-attained, within-no-sooner}
 
 module _ (N : Net) (source departure : ℕ) where
   pub labels-length : length (labelsOf N source departure) ≡ N .junctions
   unfolding labelsOf
   labels-length = within-length N source departure (N .junctions)
 
-  pub labels-at-most-never : departure < never → (j : ℕ) → getD (labelsOf N source departure) j never ≤ never
-  unfolding labelsOf
-  labels-at-most-never departs = within-at-most-never N source departure departs (N .junctions)
-
-  pub labels-attained : Sound N → (j : ℕ) → getD (labelsOf N source departure) j never < never → Arrives N source departure j (getD (labelsOf N source departure) j never)
+  pub labels-attained : Sound N → (j : ℕ) → (getD (labelsOf N source departure) j never ≡ never → ⊥) → Arrives N source departure j (getD (labelsOf N source departure) j never)
   unfolding labelsOf
   labels-attained sound = within-attained N sound source departure (N .junctions)
 

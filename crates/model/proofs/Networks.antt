@@ -11,7 +11,7 @@ use Rattle.model.specs.Intervals.{interval, speedAt}
 use Rattle.model.specs.Walks.{Sound}
 use Rattle.model.specs.Network.{Network, Accepted, arcs, intervals, speedsOf, driveOf, netOf}
 use Rattle.model.specs.Demands.{Improves}
-use Rattle.model.proofs.Arrival.{arrival-is-later, arrival-is-monotone, non-passing, arrival-at-most-never}
+use Rattle.model.proofs.Arrival.{arrival-is-later, arrival-is-monotone, non-passing, arrival-by-last}
 use Rattle.model.proofs.Improvement.{Better}
 
 pub accepted-sound : (N : Network) → Accepted N → Sound (netOf N)
@@ -21,7 +21,7 @@ accepted-sound N accepted = record {
   head-below = accepted .head-below;
   later = λ a t is-arc below. arrival-is-later (speed a) (spans a) t (omega (arith, accepted .some-length a is-arc)) below;
   monotone = λ a s t is-arc earlier. non-passing (speed a) (spans a) s t earlier;
-  at-most-never = λ a t is-arc. arrival-at-most-never (speed a) (spans a) t;
+  driven = λ a t is-arc. arrival-by-last (speed a) (spans a) t;
 }
   where
     speed : ℕ → ℕ → ℕ

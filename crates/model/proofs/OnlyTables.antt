@@ -1,11 +1,11 @@
 -- The labels and the predecessors are certified and lowest, and no other two tables are: certified labels are the earliest
 -- arrivals, of which there is one table, and the lowest attaining arcs are one table as well.
-use Prim.Native.Nat.{ℕ, _<_}
+use Prim.Native.Nat.{ℕ, _≤_, _<_}
 use mathlib.Core.Path.{_≡_, refl, _∙_, ap}
-use Rattle.model.specs.Ticks.{never}
+use Rattle.model.specs.Ticks.{last}
 use Rattle.model.specs.Walks.{Net, Sound}
 use Rattle.model.specs.Labels.{labelsOf, predecessorsOf, Certified, Lowest, OnlyTables}
-use Rattle.model.proofs.Least.{labels-length, labels-at-most-never, labels-are-earliest}
+use Rattle.model.proofs.Least.{labels-length, labels-are-earliest}
 use Rattle.model.proofs.Certificate.{certified-labels}
 use Rattle.model.proofs.Predecessors.{predecessorsFor, predecessors-lowest, certified-predecessors, earliest-certified}
 
@@ -17,13 +17,12 @@ predecessors-of-labels N source departure = refl
 pub labels-lowest : (N : Net) (source departure : ℕ) → Lowest N source (labelsOf N source departure) (predecessorsOf N source departure)
 labels-lowest N source departure = rw (← predecessors-of-labels) (predecessors-lowest N source (labelsOf N source departure))
 
-pub labels-certified : (N : Net) → Sound N → (source departure : ℕ) → source < N .junctions → departure < never →
+pub labels-certified : (N : Net) → Sound N → (source departure : ℕ) → source < N .junctions → departure ≤ last →
     Certified N source departure (labelsOf N source departure) (predecessorsOf N source departure)
 labels-certified N sound source departure inside departs =
     rw (← predecessors-of-labels)
     (earliest-certified N sound source departure departs (labelsOf N source departure)
-    (labels-are-earliest N sound source departure inside departs) (labels-at-most-never N source departure departs) inside
-    (labels-length N source departure))
+    (labels-are-earliest N sound source departure inside departs) inside (labels-length N source departure))
 
 pub only-tables : OnlyTables
 only-tables N sound source departure inside departs labels predecessors = (only, are)

@@ -1,7 +1,7 @@
 -- The predecessors: the search for the first arc that attains a label finds the lowest one, and one there is, the last arc of a
 -- walk that attains the label. Conversely only one table of predecessors is certified and lowest.
 use Prim.Native.Nat.{ℕ, zero, suc, _+_, _≤_, _<_}
-use native.Mathlib.Decide.{ℕ-discrete, decLt}
+use native.Mathlib.Decide.{ℕ-discrete}
 use native.Mathlib.Omega.{arith}
 use mathlib.Core.Path.{_≡_, refl, _∙_, sym, ap}
 use mathlib.Core.Bool.{Bool, true, false, _||_, cond, true≢false, and-eq-true-iff}
@@ -11,10 +11,10 @@ use lib.Dec.{eqb}
 use lib.ListN.{length, getD}
 use lib.Seq.{ext-getD}
 use borrow.Author.Tests.{eqb-true, eq-eqb, ne-eqb}
-use Rattle.model.specs.Ticks.{never}
+use Rattle.model.specs.Ticks.{last, never}
 use Rattle.model.specs.Walks.{Net, Sound, Arrives, start, along, Earliest}
 use Rattle.model.specs.Labels.{noArc, attains, firstAttaining, predecessorOf, tabulate, Attains, Certified, Lowest}
-use Rattle.model.proofs.Walks.{left-before, arrives-from-departure}
+use Rattle.model.proofs.Walks.{left-before, arrives-from-departure, earliest-at-most-never}
 
 -- ---- Tables
 
@@ -139,18 +139,17 @@ module _ (N : Net) (source : ℕ) (labels : List ℕ) where
 
 -- ---- The arcs of earliest labels
 
-module _ (N : Net) (sound : Sound N) (source departure : ℕ) (departs : departure < never) (labels : List ℕ)
-    (earliest : Earliest N source departure (λ j. getD labels j never))
-    (at-most-never : (j : ℕ) → getD labels j never ≤ never) where
+module _ (N : Net) (sound : Sound N) (source departure : ℕ) (departs : departure ≤ last) (labels : List ℕ)
+    (earliest : Earliest N source departure (λ j. getD labels j never)) where
   -- No arc would lower a label: who arrives on it has walked.
   earliest-no-lower : (a : ℕ) → a < N .arcs → getD labels (N .head a) never ≤ N .drive a (getD labels (N .tail a) never)
-  earliest-no-lower a is-arc = go (decLt (N .drive a (getD labels (N .tail a) never)) never)
+  earliest-no-lower a is-arc = go (sound .driven a (getD labels (N .tail a) never) is-arc)
     where
-      go : Dec (N .drive a (getD labels (N .tail a) never) < never) → getD labels (N .head a) never ≤ N .drive a (getD labels (N .tail a) never)
-      go (yes arrives) =
-          let left : getD labels (N .tail a) never < never = omega (arith, left-before sound a (getD labels (N .tail a) never) is-arc arrives) in
-          earliest .no-sooner _ _ (along a is-arc (earliest .attained (N .tail a) (sound .tail-below a is-arc) left) arrives)
-      go (no unreached) = omega (arith, at-most-never (N .head a))
+      go : (N .drive a (getD labels (N .tail a) never) ≤ last) ⊎ (N .drive a (getD labels (N .tail a) never) ≡ never) → getD labels (N .head a) never ≤ N .drive a (getD labels (N .tail a) never)
+      go (inl arrives) =
+          let left : getD labels (N .tail a) never < N .drive a (getD labels (N .tail a) never) = left-before sound a (getD labels (N .tail a) never) is-arc arrives in
+          earliest .no-sooner _ _ (along a is-arc (earliest .attained (N .tail a) (sound .tail-below a is-arc) λ none. omega arith) arrives)
+      go (inr none) = omega (arith, earliest-at-most-never departs earliest (N .head a) (sound .head-below a is-arc))
 
   -- The last arc of a walk that arrives at the label.
   last-arc : {j t : ℕ} → Arrives N source departure j t → (j ≡ source → ⊥) → t ≡ getD labels j never → (a : ℕ) × Attains N labels j a
@@ -159,14 +158,14 @@ module _ (N : Net) (sound : Sound N) (source departure : ℕ) (departs : departu
       let no-later : N .drive a (getD labels (N .tail a) never) ≤ N .drive a t = sound .monotone a _ t is-arc (earliest .no-sooner _ t w) in
       (a, record { is-arc = is-arc; into = refl; arrives = omega (arith, earliest-no-lower a is-arc); reached = omega arith })
 
-  earliest-arc : (j : ℕ) → j < N .junctions → (j ≡ source → ⊥) → getD labels j never < never → (a : ℕ) × Attains N labels j a
+  earliest-arc : (j : ℕ) → j < N .junctions → (j ≡ source → ⊥) → (getD labels j never ≡ never → ⊥) → (a : ℕ) × Attains N labels j a
   earliest-arc j is-junction other reached = last-arc (earliest .attained j is-junction reached) other refl
 
   -- The source's label is the departure: no walk arrives before it.
   earliest-at-source : source < N .junctions → getD labels source never ≡ departure
   earliest-at-source inside =
       let no-later : getD labels source never ≤ departure = earliest .no-sooner source departure start in
-      omega (arith, arrives-from-departure sound (earliest .attained source inside (omega arith)))
+      omega (arith, arrives-from-departure sound (earliest .attained source inside λ none. omega arith))
 
   -- Earliest labels and their predecessors are certified.
   pub earliest-certified : source < N .junctions → length labels ≡ N .junctions → Certified N source departure labels (predecessorsFor N source labels)
@@ -176,12 +175,10 @@ module _ (N : Net) (sound : Sound N) (source departure : ℕ) (departs : departu
     source-label = earliest-at-source inside;
     source-predecessor = predecessors-at N source labels source inside ∙ predecessor-of-source N source labels;
     no-lower = earliest-no-lower;
-    others = λ j is-junction other. rw (predecessors-at N source labels j is-junction) (go j is-junction other (decLt (getD labels j never) never));
+    others = λ j is-junction other. rw (predecessors-at N source labels j is-junction) (go j is-junction other (ℕ-discrete (getD labels j never) never));
   }
     where
-      go : (j : ℕ) → j < N .junctions → (j ≡ source → ⊥) → Dec (getD labels j never < never) →
+      go : (j : ℕ) → j < N .junctions → (j ≡ source → ⊥) → Dec (getD labels j never ≡ never) →
           ((getD labels j never ≡ never) × (predecessorOf N source labels j ≡ noArc)) ⊎ Attains N labels j (predecessorOf N source labels j)
-      go j is-junction other (yes reached) = inr (predecessor-attains N source labels j other (earliest-arc j is-junction other reached .1))
-      go j is-junction other (no unreached) =
-          let e : getD labels j never ≡ never = omega (arith, at-most-never j) in
-          inl (e, predecessor-of-unreached N source labels j e)
+      go j is-junction other (yes unreached) = inl (unreached, predecessor-of-unreached N source labels j unreached)
+      go j is-junction other (no reached) = inr (predecessor-attains N source labels j other (earliest-arc j is-junction other reached .1))

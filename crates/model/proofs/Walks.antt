@@ -1,40 +1,44 @@
 -- Walks of a sound net. Waiting gains nothing, so labels are earliest if no plain walk arrives sooner. Each walk has one that
 -- arrives no later and visits no junction twice, and so no more junctions than there are: where a walk comes back to a
 -- junction, it goes on from its first visit, which was earlier.
-use Prim.Native.Nat.{ℕ, _-_, _≤_, _<_}
+use Prim.Native.Nat.{ℕ, _≤_, _<_}
 use mathlib.Core.Path.{_≡_, sym, subst}
-use mathlib.Core.Logic.{inl, inr}
+use mathlib.Core.Logic.{inl, inr, ⊎-elim}
 use mathlib.Core.List.{List, [], _∷_}
 use native.Mathlib.Nat.{le-antisymm}
-use native.Mathlib.Decide.{decLt}
+use native.Mathlib.Decide.{decLt, ℕ-discrete}
 use native.Mathlib.Omega.{arith}
 use lib.ListN.{length}
-use Rattle.model.specs.Ticks.{never}
+use Rattle.model.specs.Ticks.{last, never}
 use Rattle.model.specs.Walks.{Net, Sound, Arrives, start, along, ArrivesWaiting, Earliest}
 use Rattle.model.proofs.Distinct.{Member, Distinct, member?, distinct-length}
 
 -- ---- Arcs
 
 module _ {N : Net} (sound : Sound N) (a t : ℕ) (is-arc : a < N .arcs) where
-  -- Who leaves at never, or later, never arrives.
-  pub drive-never : never ≤ t → N .drive a t ≡ never
+  -- Who arrives does so by the last tick.
+  pub drive-by-last : (N .drive a t ≡ never → ⊥) → N .drive a t ≤ last
+  drive-by-last arrives = ⊎-elim (λ by-last. by-last) (λ none. absurd (arrives none)) (sound .driven a t is-arc)
+
+  -- Who leaves at the last tick, or later, arrives after it, and so never.
+  pub drive-never : last ≤ t → N .drive a t ≡ never
   drive-never late =
-      let before : ℕ = never - 1 in
-      omega (arith, sound .later a before is-arc (omega arith), sound .monotone a before t is-arc (omega arith), sound .at-most-never a t is-arc)
+      let after : last < N .drive a t = omega (arith, sound .later a last is-arc (omega arith), sound .monotone a last t is-arc late) in
+      ⊎-elim (λ by-last. absurd (omega arith)) (λ none. none) (sound .driven a t is-arc)
 
   -- Who arrives has left before.
-  pub left-before : N .drive a t < never → t < N .drive a t
-  left-before arrives = go (decLt t never)
+  pub left-before : N .drive a t ≤ last → t < N .drive a t
+  left-before arrives = go (decLt t last)
     where
-      go : Dec (t < never) → t < N .drive a t
-      go (yes below) = sound .later a t is-arc below
+      go : Dec (t < last) → t < N .drive a t
+      go (yes in-time) = sound .later a t is-arc (omega arith)
       go (no late) = absurd (omega (arith, drive-never (omega arith)))
 
 -- ---- Ticks of a walk
 
-pub arrives-below-never : {N : Net} {source departure j t : ℕ} → departure < never → Arrives N source departure j t → t < never
-arrives-below-never departs start = departs
-arrives-below-never departs (along a is-arc w arrives) = arrives
+pub arrives-by-last : {N : Net} {source departure j t : ℕ} → departure ≤ last → Arrives N source departure j t → t ≤ last
+arrives-by-last departs start = departs
+arrives-by-last departs (along a is-arc w arrives) = arrives
 
 module _ {N : Net} (sound : Sound N) {source departure : ℕ} where
   pub arrives-from-departure : {j t : ℕ} → Arrives N source departure j t → departure ≤ t
@@ -55,31 +59,33 @@ module _ {N : Net} (sound : Sound N) {source departure : ℕ} where
 
 module _ {N : Net} {source departure : ℕ} where
   -- Labels that walks attain, and before which none arrives, are earliest.
-  pub are-earliest : Sound N → departure < never → {label : ℕ → ℕ} →
-      ((j : ℕ) → j < N .junctions → label j < never → Arrives N source departure j (label j)) →
+  pub are-earliest : Sound N → departure ≤ last → {label : ℕ → ℕ} →
+      ((j : ℕ) → j < N .junctions → (label j ≡ never → ⊥) → Arrives N source departure j (label j)) →
       ((j t : ℕ) → Arrives N source departure j t → label j ≤ t) → Earliest N source departure label
   are-earliest sound departs attained no-sooner = record {
     attained = attained;
     no-sooner = no-sooner;
     no-sooner-waiting = λ j t w. let (u, v, sooner) = waiting-no-sooner sound w in omega (arith, no-sooner j u v);
-    unreached = λ j t none w. omega (arith, no-sooner j t w, arrives-below-never departs w);
+    unreached = λ j t none w. omega (arith, no-sooner j t w, arrives-by-last departs w);
   }
 
-  -- A number up to never before which no walk arrives at a junction is at most its label.
-  pub bound-at-most-label : {label : ℕ → ℕ} → Earliest N source departure label → (j bound : ℕ) → j < N .junctions → bound ≤ never →
-      ((t : ℕ) → Arrives N source departure j t → bound ≤ t) → bound ≤ label j
-  bound-at-most-label {label} earliest j bound is-junction low no-sooner = go (decLt (label j) never)
+  pub earliest-at-most-never : departure ≤ last → {label : ℕ → ℕ} → Earliest N source departure label → (j : ℕ) → j < N .junctions → label j ≤ never
+  earliest-at-most-never departs {label} earliest j is-junction = go (ℕ-discrete (label j) never)
     where
-      go : Dec (label j < never) → bound ≤ label j
-      go (yes reached) = no-sooner (label j) (earliest .attained j is-junction reached)
-      go (no unreached) = omega arith
+      go : Dec (label j ≡ never) → label j ≤ never
+      go (yes unreached) = omega arith
+      go (no reached) = omega (arith, arrives-by-last departs (earliest .attained j is-junction reached))
 
-  -- Two labellings that are earliest agree where they are at most never.
-  pub earliest-unique : {f g : ℕ → ℕ} → Earliest N source departure f → Earliest N source departure g → (j : ℕ) → j < N .junctions →
-      f j ≤ never → g j ≤ never → f j ≡ g j
-  earliest-unique {f} {g} of-f of-g j is-junction low-f low-g =
-      le-antisymm (bound-at-most-label of-g j (f j) is-junction low-f (of-f .no-sooner j))
-      (bound-at-most-label of-f j (g j) is-junction low-g (of-g .no-sooner j))
+  -- Two labellings that are earliest agree.
+  pub earliest-unique : {f g : ℕ → ℕ} → Earliest N source departure f → Earliest N source departure g → (j : ℕ) → j < N .junctions → f j ≡ g j
+  earliest-unique {f} {g} of-f of-g j is-junction = go (ℕ-discrete (f j) never) (ℕ-discrete (g j) never)
+    where
+      go : Dec (f j ≡ never) → Dec (g j ≡ never) → f j ≡ g j
+      go (yes none) (yes none′) = cc
+      go (yes none) (no reached) = absurd (of-f .unreached j (g j) none (of-g .attained j is-junction reached))
+      go (no reached) (yes none) = absurd (of-g .unreached j (f j) none (of-f .attained j is-junction reached))
+      go (no reached) (no reached′) =
+          le-antisymm (of-f .no-sooner j (g j) (of-g .attained j is-junction reached′)) (of-g .no-sooner j (f j) (of-f .attained j is-junction reached))
 
 -- ---- Walks without repetition
 
@@ -128,7 +134,7 @@ module _ {N : Net} (sound : Sound N) {source departure : ℕ} where
   up-to j (along a {t = t} is-arc w arrives) (inr m) d = relax (up-to j w m (d .1)) (omega (arith, left-before sound a t is-arc arrives))
 
   -- One arc more, unless its head is visited already.
-  extend : (a : ℕ) {t : ℕ} → a < N .arcs → N .drive a t < never → Simple N source departure (N .tail a) t → Simple N source departure (N .head a) (N .drive a t)
+  extend : (a : ℕ) {t : ℕ} → a < N .arcs → N .drive a t ≤ last → Simple N source departure (N .tail a) t → Simple N source departure (N .head a) (N .drive a t)
   extend a {t} is-arc arrives s = go (member? (N .head a) (visited (s .walk)))
     where
       go : Dec (Member (N .head a) (visited (s .walk))) → Simple N source departure (N .head a) (N .drive a t)

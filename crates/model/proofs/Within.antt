@@ -1,5 +1,5 @@
--- The entries of `within`, by induction on the number of rounds: one below never is the arrival of a walk, and each is at most
--- the arrival of every walk of at most as many arcs. An offer never raises an entry.
+-- The entries of `within`, by induction on the number of rounds: one other than never is the arrival of a walk, and each is at
+-- most the arrival of every walk of at most as many arcs. An offer never raises an entry.
 use Prim.Native.Nat.{ℕ, zero, suc, _≤_, _<_, min}
 use mathlib.Core.Path.{_≡_, refl, sym, ap, _∙_}
 use mathlib.Core.Logic.{_⊎_, inl, inr, ⊎-elim}
@@ -9,10 +9,10 @@ use native.Mathlib.Decide.{decLe, decLt, ℕ-discrete}
 use native.Mathlib.Omega.{arith}
 use lib.ListN.{length, getD, set, replicate, length-set, length-replicate, getD-replicate, List·getD-eq-default}
 use lib.Seq.{getD-set-same, getD-set-other, set-out}
-use Rattle.model.specs.Ticks.{never}
+use Rattle.model.specs.Ticks.{last, never}
 use Rattle.model.specs.Walks.{Net, Sound, Arrives, start, along}
 use Rattle.model.specs.Labels.{offer, offers, within}
-use Rattle.model.proofs.Walks.{left-before, visited, visited-some}
+use Rattle.model.proofs.Walks.{drive-by-last, left-before, visited, visited-some}
 
 -- ---- Lists
 
@@ -110,10 +110,6 @@ module _ (N : Net) (source departure : ℕ) where
   first-entry j =
       ⊎-elim (λ stays. inl (stays ∙ getD-replicate-default (N .junctions) j never)) inr (getD-set (replicate (N .junctions) never) source j departure never)
 
-  pub within-at-most-never : departure < never → (k j : ℕ) → getD (within N source departure k) j never ≤ never
-  within-at-most-never departs zero j = ⊎-elim (λ unreached. omega arith) (λ at-source. omega arith) (first-entry j)
-  within-at-most-never departs (suc k) j = omega (arith, within-no-rise k j, within-at-most-never departs k j)
-
   pub within-at-source : source < N .junctions → (k : ℕ) → getD (within N source departure k) source never ≤ departure
   unfolding within
   within-at-source inside zero = omega (arith, getD-set-same (replicate (N .junctions) never) source departure never (rw length-replicate inside))
@@ -133,19 +129,19 @@ module _ (N : Net) (sound : Sound N) (source departure : ℕ) where
       let sooner : getD (within N source departure k) (N .tail a) never ≤ t = within-no-sooner inside k w (omega arith) in
       omega (arith, within-next k a is-arc, sound .monotone a (getD (within N source departure k) (N .tail a) never) t is-arc sooner)
 
-  -- Each entry below never is the arrival of a walk.
+  -- Each entry other than never is the arrival of a walk.
   abbrev Attained : List ℕ → Type 0
-  Attained labels = (j : ℕ) → getD labels j never < never → Arrives N source departure j (getD labels j never)
+  Attained labels = (j : ℕ) → (getD labels j never ≡ never → ⊥) → Arrives N source departure j (getD labels j never)
 
   offer-attained : (old : List ℕ) → Attained old → (a : ℕ) → a < N .arcs → (new : List ℕ) → Attained new → Attained (offer N old a new)
-  offer-attained old reached a is-arc new so-far j below = go (offer-entry N old a new j)
+  offer-attained old reached a is-arc new so-far j arrived = go (offer-entry N old a new j)
     where
       go : Stays N old a new j ⊎ Lowered N old a new j → Arrives N source departure j (getD (offer N old a new) j never)
-      go (inl stays) = rw stays (so-far j (omega arith))
+      go (inl stays) = rw stays (so-far j λ none. arrived (stays ∙ none))
       go (inr (e, lowered, less)) =
-          let arrives : offered N old a < never = omega arith in
+          let arrives : offered N old a ≤ last = drive-by-last sound a (getD old (N .tail a) never) is-arc (λ none. arrived (lowered ∙ none)) in
           let left : getD old (N .tail a) never < offered N old a = left-before sound a (getD old (N .tail a) never) is-arc arrives in
-          rw (lowered, e) (along a is-arc (reached (N .tail a) (omega arith)) arrives)
+          rw (lowered, e) (along a is-arc (reached (N .tail a) λ none. omega arith) arrives)
 
   offers-attained : (old : List ℕ) → Attained old → (k : ℕ) → k ≤ N .arcs → Attained (offers N old k)
   unfolding offers
@@ -153,11 +149,11 @@ module _ (N : Net) (sound : Sound N) (source departure : ℕ) where
   offers-attained old reached (suc a) among = offer-attained old reached a among (offers N old a) (offers-attained old reached a (omega arith))
 
   first-attained : Attained (within N source departure zero)
-  first-attained j below = go (first-entry N source departure j)
+  first-attained j arrived = go (first-entry N source departure j)
     where
       go : (getD (within N source departure zero) j never ≡ never) ⊎ ((j ≡ source) × (getD (within N source departure zero) j never ≡ departure))
           → Arrives N source departure j (getD (within N source departure zero) j never)
-      go (inl unreached) = absurd (omega arith)
+      go (inl unreached) = absurd (arrived unreached)
       go (inr (e, departs)) = rw (departs, e) start
 
   pub within-attained : (k : ℕ) → Attained (within N source departure k)

@@ -4,9 +4,9 @@ use mathlib.Core.Path.{_≡_}
 use mathlib.Core.Bool.{Bool, _&&_, _||_, cond}
 use mathlib.Core.List.{List, [], _∷_}
 use mathlib.Core.Logic.{_⊎_, _↔_}
-use lib.Dec.{ltb, eqb}
+use lib.Dec.{eqb}
 use lib.ListN.{length, getD, set, replicate}
-use Rattle.model.specs.Ticks.{never}
+use Rattle.model.specs.Ticks.{last, never}
 use Rattle.model.specs.Walks.{Net, Sound, Earliest}
 
 -- "An unreached junction has label 4,294,967,295. It and the source have predecessor 65,535."
@@ -81,12 +81,12 @@ Lowest N source labels predecessors = (j a : ℕ) → j < N .junctions → (j �
 
 -- The labels are the earliest arrivals over all walks.
 abbrev pub LabelsAreEarliest : Type 0
-LabelsAreEarliest = (N : Net) → Sound N → (source departure : ℕ) → source < N .junctions → departure < never →
+LabelsAreEarliest = (N : Net) → Sound N → (source departure : ℕ) → source < N .junctions → departure ≤ last →
     Earliest N source departure (λ j. getD (labelsOf N source departure) j never)
 
 -- The labels and the predecessors are the only tables that satisfy the conditions.
 abbrev pub OnlyTables : Type 0
-OnlyTables = (N : Net) → Sound N → (source departure : ℕ) → source < N .junctions → departure < never →
+OnlyTables = (N : Net) → Sound N → (source departure : ℕ) → source < N .junctions → departure ≤ last →
     (labels predecessors : List ℕ) →
     (Certified N source departure labels predecessors × Lowest N source labels predecessors)
     ↔ ((labels ≡ labelsOf N source departure) × (predecessors ≡ predecessorsOf N source departure))

@@ -3,20 +3,31 @@ use Prim.Native.Nat.{ℕ}
 use mathlib.Core.Path.{_≡_}
 use mathlib.Core.List.{List, [], _∷_}
 use mathlib.Core.Option.{Option, none, some}
+use Rattle.model.specs.Labels.{labelsOf}
+use Rattle.model.specs.Network.{Network, network, netOf}
+use Rattle.model.specs.NetworkRules.{networkCheck}
 use Rattle.model.specs.Rules.{replied}
 use Rattle.reckoning.specs.ArcArrival.{arcArrival}
 
--- A row of an arc; its arrival is none where the arc cannot be driven.
+-- A row of an arc, whose arrival is none where the arc cannot be driven; and one of a town, with its labels.
 pub data Row : Type 0 where
   arc : (metres : ℕ) (fences speeds : List ℕ) (departure : ℕ) (arrival : Option ℕ) → Row
+  town : (N : Network) (source departure : ℕ) (labels : List ℕ) → Row
 
 -- What a row claims, from the definition of the operation.
 abbrev pub Holds : Row → Type 0
 Holds (arc metres fences speeds departure arrival) = arcArrival departure metres fences speeds ≡ replied arrival
+Holds (town N source departure labels) = (networkCheck N ≡ replied tt) × (labelsOf (netOf N) source departure ≡ labels)
 
-abbrev pub Each : List Row → Type 0
-Each [] = Unit {0}
-Each (row ∷ rows) = Holds row × Each rows
+infixr 5 _also_
+-- Every row of a list holds.
+pub data Each : List Row → Type 0 where
+  no-more : Each []
+  _also_ : {row : Row} {rows : List Row} → Holds row → Each rows → Each (row ∷ rows)
+
+-- The sample town: its FN and AR lines.
+abbrev pub sample : Network
+sample = network 3 (0 ∷ 100 ∷ []) (0 ∷ 0 ∷ 1 ∷ []) (1 ∷ 2 ∷ 2 ∷ []) (50 ∷ 100 ∷ 50 ∷ []) (36 ∷ 18 ∷ 40 ∷ 20 ∷ 36 ∷ 36 ∷ [])
 
 abbrev pub starred : List Row
 starred =
@@ -28,6 +39,7 @@ starred =
     ∷ arc 2 (0 ∷ 100 ∷ []) (36 ∷ 0 ∷ []) 99 none
     ∷ arc 1 (0 ∷ []) (1 ∷ []) 1727964 (some 1728000)
     ∷ arc 1 (0 ∷ []) (1 ∷ []) 1727965 none
+    ∷ town sample 0 10 (10 ∷ 60 ∷ 100 ∷ [])
     ∷ []
 
 -- The one claim.

@@ -3,7 +3,7 @@
 use Prim.Native.Nat.{ℕ, zero, suc, _≤_, _<_}
 use mathlib.Core.Path.{_≡_, refl, ap}
 use mathlib.Core.Bool.{Bool, true, false, not, _&&_, cond}
-use mathlib.Core.List.{List, [], _∷_}
+use mathlib.Core.List.{List, [], _∷_, _++_}
 use native.Mathlib.Omega.{arith}
 use lib.Dec.{leb, ltb, eqb}
 use lib.ListN.{length, getD, take}
@@ -49,6 +49,26 @@ unfolding firstBroken
 refused-at [] reply k kept broken = absurd (let z : _≡_ {A = ℕ} 0 1 = cc in omega arith)
 refused-at (rule ∷ rules) reply zero kept broken = rw broken
 refused-at (rule ∷ rules) reply (suc k) kept broken = rw (kept .0) (refused-at rules reply k (kept .1) broken)
+
+-- A list of rules with more behind it: where the first list refuses, so does the whole; where it is kept, the rest decides.
+pub refused-before : {Reply Reply′ : Type 0} (rules more : List Rule) (reply : Reply) (reply′ : Reply′) (number : ℕ) → firstBroken rules reply ≡ refused number → firstBroken (rules ++ more) reply′ ≡ refused number
+unfolding firstBroken
+refused-before [] more reply reply′ number e = absurd (let z : _≡_ {A = ℕ} 0 1 = cc in omega arith)
+refused-before (rule ∷ rules) more reply reply′ number e = go (rule .broken) (refused-before rules more reply reply′ number) e
+  where
+    go : (broken : Bool) → (firstBroken rules reply ≡ refused number → firstBroken (rules ++ more) reply′ ≡ refused number) →
+        cond broken (refused (rule .number)) (firstBroken rules reply) ≡ refused number → cond broken (refused (rule .number)) (firstBroken (rules ++ more) reply′) ≡ refused number
+    go true rest e = cc
+    go false rest e = rest e
+
+pub kept-before : {Reply : Type 0} (rules more : List Rule) (reply : Reply) → AllKept rules → firstBroken (rules ++ more) reply ≡ firstBroken more reply
+unfolding firstBroken
+kept-before [] more reply kept = refl
+kept-before (rule ∷ rules) more reply kept = rw (kept .0) (kept-before rules more reply (kept .1))
+
+pub kept-append : (rules more : List Rule) → AllKept (rules ++ more) → AllKept rules × AllKept more
+kept-append [] more kept = (tt, kept)
+kept-append (rule ∷ rules) more kept = let rest = kept-append rules more (kept .1) in ((kept .0, rest .0), rest .1)
 
 -- ---- Tests that hold together
 

@@ -3,4 +3,6 @@
 pub mod arc;
 mod check;
 mod drive;
+mod labelling;
+pub mod labels;
 pub mod network;

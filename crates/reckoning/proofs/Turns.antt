@@ -1,0 +1,273 @@
+-- The labelling's two loops on a network. Between the turns of the outer loop every arc of a settled junction has offered
+-- (`Round`); between those of the inner loop the arcs of the settled junction before arc a have (`Turn`).
+use Prim.Native.Nat.{ℕ, zero, suc, _+_, _*_, _≤_, _<_}
+use mathlib.Core.Path.{_≡_, refl, sym, ap, _∙_}
+use mathlib.Core.Bool.{Bool, true, false, cond}
+use mathlib.Core.List.{List, [], _∷_}
+use mathlib.Core.Logic.{_⊎_, inl, inr, ⊎-elim, by-cases}
+use native.Mathlib.Decide.{decLt, ℕ-discrete}
+use native.Mathlib.Nat.{mul-le-mul-right, suc-mul}
+use native.Mathlib.Omega.{arith}
+use lib.Dec.{ltb, eqb}
+use lib.ListN.{length, getD, set, take, drop, replicate, length-set, length-take, length-drop, length-replicate, getD-replicate}
+use lib.Seq.{getD-take, getD-drop, getD-set-same, getD-set-other}
+use borrow.Author.Tests.{lt-ltb, le-ltb, eq-eqb, ne-eqb}
+use Rattle.model.specs.Ticks.{day, last, never}
+use Rattle.model.specs.Intervals.{passed}
+use Rattle.model.specs.Network.{Network, Accepted, arcs, intervals, driveOf, netOf}
+use Rattle.model.specs.Labels.{noArc, labelsOf, predecessorsOf}
+use Rattle.model.proofs.Networks.{accepted-sound}
+use Rattle.model.proofs.Tests.{ltb-cases, eqb-cases}
+use Rattle.reckoning.specs.Drive.{Drivable}
+use Rattle.reckoning.specs.Labelling.{arcFrom, Linked, Nearest, arcSpeeds, arrivalOn, lowered, taken, Offerable, Labelable}
+use Rattle.reckoning.proofs.Flags.{true-not-false}
+use Rattle.reckoning.proofs.Linking.{arc-from, arc-from-least}
+use Rattle.reckoning.proofs.Settling.{Settling, settling-starts, settling-weakens, settle, settled-label-stays, offer-keeps, offer-skips, offer-lowers, offer-ties, settling-ends}
+
+-- ---- Entries within a table
+
+-- An entry within a list does not depend on the default.
+getD-inside : {A : Type 0} (xs : List A) (i : ℕ) (d e : A) → i < length xs → getD xs i d ≡ getD xs i e
+getD-inside [] i d e h = absurd (omega arith)
+getD-inside (x ∷ xs) zero d e h = refl
+getD-inside (x ∷ xs) (suc i) d e h = getD-inside xs i d e (omega arith)
+
+getD-all : {A : Type 0} (n : ℕ) (x : A) (k : ℕ) → getD (replicate n x) k x ≡ x
+getD-all zero x k = refl
+getD-all (suc n) x zero = refl
+getD-all (suc n) x (suc k) = getD-all n x k
+
+-- ---- The arc that an offer drives
+
+arc-inside : (a n m : ℕ) → a < m → a * n + n ≤ m * n
+arc-inside a n m h = omega (arith, mul-le-mul-right n h, suc-mul a n)
+
+arc-drivable : (N : Network) → Accepted N → (tick interval a : ℕ) → tick ≤ last → suc interval ≡ passed (N .fences) tick → a < arcs N →
+    Drivable tick interval (getD (N .lengths) a 0) (N .fences) (arcSpeeds (N .fences) (N .speeds) a)
+arc-drivable N accepted tick interval a in-time in-interval is-arc =
+    let inside = arc-inside a (intervals N) (arcs N) is-arc in
+    let as-many : length (arcSpeeds (N .fences) (N .speeds) a) ≡ intervals N = simp (length-take, length-drop) (omega (arith, accepted .speeds-long)) in
+    record {
+      in-time = in-time;
+      in-interval = in-interval;
+      some-length = accepted .some-length a is-arc;
+      length-fits = accepted .length-fits a is-arc;
+      fences-kept = accepted .fences-kept;
+      as-many = as-many;
+      speed-fits = λ k h. rw (getD-take (intervals N) (drop (a * intervals N) (N .speeds)) k 0 (omega arith), getD-drop) (accepted .speed-fits (a * intervals N + k) (omega arith));
+    }
+
+-- ---- What is left to settle
+
+unfoldable pub waiting : List Bool → ℕ
+waiting [] = 0
+waiting (true ∷ flags) = waiting flags
+waiting (false ∷ flags) = suc (waiting flags)
+
+pub waiting-falls : (flags : List Bool) (j : ℕ) → j < length flags → getD flags j false ≡ false → waiting (set flags j true) < waiting flags
+unfolding waiting
+waiting-falls [] j h e = absurd (omega arith)
+waiting-falls (true ∷ flags) zero h e = absurd (true-not-false refl e)
+waiting-falls (false ∷ flags) zero h e = omega arith
+waiting-falls (true ∷ flags) (suc j) h e = waiting-falls flags j (omega arith) e
+waiting-falls (false ∷ flags) (suc j) h e = omega (arith, waiting-falls flags j (omega arith) e)
+
+-- ---- The outer loop
+
+abbrev Done : Network → List Bool → ℕ → Type 0
+Done N settled b = getD settled (getD (N .tails) b 0) false ≡ true
+
+pub record Round (N : Network) (source departure : ℕ) (settled : List Bool) (labels predecessors : List ℕ) : Type 0 where
+  pub tick : ℕ
+  pub settling : Settling (netOf N) source departure tick settled (Done N settled) labels predecessors
+  pub settled-long : length settled ≡ 200
+
+module _ {N : Network} {source departure : ℕ} {labels₀ predecessors₀ : List ℕ} (q : Labelable N source departure labels₀ predecessors₀) where
+  pub round-starts : {labels predecessors : List ℕ} → labels ≡ set (replicate (N .junctions) never) source departure → predecessors ≡ replicate (N .junctions) noArc →
+      Round N source departure (replicate 200 false) labels predecessors
+  round-starts l p = record {
+    tick = departure;
+    settling = settling-starts (q .source-below) (omega (arith, q .departure-below)) l p (getD-all 200 false) (λ b h d. d);
+    settled-long = length-replicate 200 false;
+  }
+
+  pub round-ends : {settled : List Bool} {labels predecessors : List ℕ} → Round N source departure settled labels predecessors → Nearest labels settled (length labels) →
+      (labels ≡ labelsOf (netOf N) source departure) × (predecessors ≡ predecessorsOf (netOf N) source departure)
+  round-ends {settled} {labels} {predecessors} r nearest =
+      settling-ends (r .settling) (accepted-sound N (q .accepted))
+      (λ k h e. rw (getD-inside labels k never 0 (omega (arith, r .settling .labels-long))) (nearest .none-left refl k (omega (arith, r .settling .labels-long)) e))
+      (λ b h e. e)
+      (q .source-below)
+
+-- ---- The inner loop
+
+-- An arc of a settled junction; of the junction at hand, one before arc a.
+abbrev Driven : Network → List Bool → ℕ → ℕ → ℕ → Type 0
+Driven N settled junction a b = (b < arcs N) × (getD settled (getD (N .tails) b 0) false ≡ true) × (getD (N .tails) b 0 ≡ junction → b < a)
+
+pub record Turn (N : Network) (source departure : ℕ) (settled : List Bool) (junction tick interval a : ℕ) (labels predecessors : List ℕ) : Type 0 where
+  pub settling : Settling (netOf N) source departure tick settled (Driven N settled junction a) labels predecessors
+  pub settled-long : length settled ≡ 200
+  pub is-junction : junction < N .junctions
+  pub junction-settled : getD settled junction false ≡ true
+  pub tick-is : getD labels junction never ≡ tick
+  pub interval-is : suc interval ≡ passed (N .fences) tick
+  pub arc-is : (a ≡ noArc → ⊥) → (a < arcs N) × (getD (N .tails) a 0 ≡ junction)
+
+-- The first arc of a tail from an arc on is none or an arc with that tail.
+arc-known : (N : Network) (junction p : ℕ) → p ≤ arcs N → {a : ℕ} → a ≡ arcFrom (N .tails) junction p → (a ≡ noArc → ⊥) → (a < arcs N) × (getD (N .tails) a 0 ≡ junction)
+arc-known N junction p inside same some =
+    ⊎-elim (λ e. absurd (some (same ∙ e))) (λ f. rw same (f .0, f .1)) (arc-from (N .tails) junction p inside)
+
+-- Before its first arc, no arc of the junction has offered.
+before-first : (N : Network) (settled : List Bool) (junction : ℕ) {a : ℕ} → a ≡ arcFrom (N .tails) junction 0 → (b : ℕ) → Driven N (set settled junction true) junction a b → Done N settled b
+before-first N settled junction same b d =
+    by-cases (ℕ-discrete (getD (N .tails) b 0) junction)
+    (λ e. absurd (omega (arith, same, d .2 e, arc-from-least (N .tails) junction 0 b (omega arith) (d .0) e)))
+    (λ other. sym (getD-set-other settled junction (getD (N .tails) b 0) true false other) ∙ d .1)
+
+-- Up to the next arc of the junction, only arc a is new.
+one-more : (N : Network) (settled : List Bool) (junction a : ℕ) {next : ℕ} → next ≡ arcFrom (N .tails) junction (suc a) → (b : ℕ) → Driven N settled junction next b → Driven N settled junction a b ⊎ (b ≡ a)
+one-more N settled junction a same b d =
+    by-cases (ℕ-discrete (getD (N .tails) b 0) junction)
+    (λ e.
+    by-cases (decLt b a)
+    (λ h. inl (d .0, d .1, λ _. h))
+    (λ not-before.
+    by-cases (ℕ-discrete b a) inr
+    (λ other. absurd (omega (arith, same, d .2 e, arc-from-least (N .tails) junction (suc a) b (omega arith) (d .0) e)))))
+    (λ other. inl (d .0, d .1, λ e. absurd (other e)))
+
+-- ---- An offer
+
+module _ {N : Network} (accepted : Accepted N) {source departure tick : ℕ} {settled : List Bool} {D D′ : ℕ → Type 0} {labels predecessors : List ℕ}
+    (s : Settling (netOf N) source departure tick settled D labels predecessors) (a : ℕ) (is-arc : a < arcs N)
+    (tail-settled : getD settled (getD (N .tails) a 0) false ≡ true) (tail-label : getD labels (getD (N .tails) a 0) never ≡ tick)
+    (more : (b : ℕ) → D′ b → D b ⊎ (b ≡ a)) where
+  abbrev head : ℕ
+  head = getD (N .heads) a 0
+
+  abbrev arrives : ℕ
+  arrives = arrivalOn (N .fences) (N .lengths) (N .speeds) a tick
+
+  label-is : getD labels head never ≡ getD labels head 0
+  label-is = getD-inside labels head never 0 (omega (arith, accepted .head-below a is-arc, s .labels-long))
+
+  predecessor-is : getD predecessors head noArc ≡ getD predecessors head 0
+  predecessor-is = getD-inside predecessors head noArc 0 (omega (arith, accepted .head-below a is-arc, s .predecessors-long))
+
+  pub skipped : getD settled head false ≡ true → Settling (netOf N) source departure tick settled D′ labels predecessors
+  skipped = offer-skips s (accepted-sound N accepted) a is-arc tail-settled tail-label more
+
+  pub offered : getD settled head false ≡ false → Settling (netOf N) source departure tick settled D′ (lowered labels head arrives) (taken labels predecessors head arrives a)
+  unfolding driveOf
+  offered waits =
+      ⊎-elim
+      (λ w. rw (w .0) (offer-lowers s (accepted-sound N accepted) a is-arc tail-settled tail-label more waits (rw label-is (w .1))))
+      (λ w. rw (w .0)
+      (by-cases (decLt arrives never)
+      (λ reached. rw (lt-ltb arrives never reached)
+      (⊎-elim
+      (λ e. rw (e .0)
+      (⊎-elim
+      (λ l. rw (l .0) (offer-ties s (accepted-sound N accepted) a is-arc tail-settled tail-label more (rw label-is (e .1)) reached (rw predecessor-is (l .1))))
+      (λ l. rw (l .0) (keeps (w .1) (λ _ _. l .1)))
+      (ltb-cases a (getD predecessors head 0))))
+      (λ e. rw (e .0) (keeps (w .1) (λ same _. absurd (e .1 same))))
+      (eqb-cases arrives (getD labels head 0))))
+      (λ unreached. rw (le-ltb arrives never (omega arith)) (keeps (w .1) (λ _ reached. absurd (unreached reached))))))
+      (ltb-cases arrives (getD labels head 0))
+    where
+      keeps : getD labels head 0 ≤ arrives → (arrives ≡ getD labels head 0 → arrives < never → getD predecessors head 0 ≤ a) → Settling (netOf N) source departure tick settled D′ labels predecessors
+      keeps no-lower lowest = offer-keeps s (accepted-sound N accepted) a is-arc tail-settled tail-label more (rw label-is no-lower) (rw (label-is, predecessor-is) lowest)
+
+  -- A settled junction keeps its label.
+  pub settled-stays : getD settled head false ≡ false → (k : ℕ) → getD settled k false ≡ true → getD (lowered labels head arrives) k never ≡ getD labels k never
+  settled-stays waits k done =
+      ⊎-elim (λ w. rw (w .0) (settled-label-stays settled labels head k arrives waits done)) (λ w. rw (w .0)) (ltb-cases arrives (getD labels head 0))
+
+-- ---- The inner loop's turns
+
+module _ {N : Network} {source departure : ℕ} {labels₀ predecessors₀ : List ℕ} (q : Labelable N source departure labels₀ predecessors₀) where
+  pub turn-starts : {settled : List Bool} {labels predecessors first next : List ℕ} {junction interval : ℕ} → Round N source departure settled labels predecessors →
+      Nearest labels settled junction → junction < length labels → Linked (N .tails) first next → suc interval ≡ passed (N .fences) (getD labels junction 0) →
+      Turn N source departure (set settled junction true) junction (getD labels junction 0) interval (getD first junction 0) labels predecessors
+  turn-starts {settled} {labels} {predecessors} {first} {next} {junction} r nearest found linked in-interval =
+      let is-junction : junction < N .junctions = omega (arith, r .settling .labels-long) in
+      let has-flag : junction < length settled = omega (arith, r .settled-long, q .accepted .junctions-fit) in
+      let same : getD labels junction never ≡ getD labels junction 0 = getD-inside labels junction never 0 found in
+      let first-is : getD first junction 0 ≡ arcFrom (N .tails) junction 0 = linked .first-is junction (omega (arith, q .accepted .junctions-fit)) in
+      record {
+        settling = rw (← same)
+            (settling-weakens
+            (settle (r .settling) (accepted-sound N (q .accepted)) junction is-junction has-flag (nearest .unsettled found)
+            (rw same (nearest .reached found))
+            (λ k h e. rw (same, getD-inside labels k never 0 (omega (arith, r .settling .labels-long))) (nearest .least found k (omega (arith, r .settling .labels-long)) e)))
+            (λ b h d. before-first N settled junction first-is b d));
+        settled-long = length-set settled junction true ∙ r .settled-long;
+        is-junction = is-junction;
+        junction-settled = getD-set-same settled junction true false has-flag;
+        tick-is = same;
+        interval-is = in-interval;
+        arc-is = arc-known N junction 0 (omega arith) first-is;
+      }
+
+  module _ {settled : List Bool} {labels predecessors first next : List ℕ} {junction tick interval a : ℕ} (linked : Linked (N .tails) first next)
+      (t : Turn N source departure settled junction tick interval a labels predecessors) (some : a ≡ noArc → ⊥) where
+    abbrev arc-at : (a < arcs N) × (getD (N .tails) a 0 ≡ junction)
+    arc-at = t .arc-is some
+
+    tail-settled : getD settled (getD (N .tails) a 0) false ≡ true
+    tail-settled = rw (arc-at .1) (t .junction-settled)
+
+    tail-label : getD labels (getD (N .tails) a 0) never ≡ tick
+    tail-label = rw (arc-at .1) (t .tick-is)
+
+    next-is : getD next a 0 ≡ arcFrom (N .tails) junction (suc a)
+    next-is = linked .next-is a (arc-at .0) ∙ rw (arc-at .1)
+
+    goes-on : {labels′ predecessors′ : List ℕ} → Settling (netOf N) source departure tick settled (Driven N settled junction (getD next a 0)) labels′ predecessors′ → getD labels′ junction never ≡ tick →
+        Turn N source departure settled junction tick interval (getD next a 0) labels′ predecessors′
+    goes-on s label = record {
+      settling = s;
+      settled-long = t .settled-long;
+      is-junction = t .is-junction;
+      junction-settled = t .junction-settled;
+      tick-is = label;
+      interval-is = t .interval-is;
+      arc-is = arc-known N junction (suc a) (arc-at .0) next-is;
+    }
+
+    pub turn-offerable : Offerable a (getD (N .heads) a 0) tick interval (N .fences) (N .lengths) (N .speeds) labels predecessors
+    turn-offerable = record {
+      few-arcs = omega (arith, arc-at .0, q .accepted .arcs-fit);
+      few-intervals = q .accepted .intervals-fit;
+      has-length = omega (arith, arc-at .0, q .accepted .lengths-long);
+      has-speeds = omega (arith, arc-inside a (intervals N) (arcs N) (arc-at .0), q .accepted .speeds-long);
+      has-label = omega (arith, q .accepted .head-below a (arc-at .0), t .settling .labels-long);
+      has-predecessor = omega (arith, q .accepted .head-below a (arc-at .0), t .settling .predecessors-long);
+      drivable = arc-drivable N (q .accepted) tick interval a (t .settling .in-time) (t .interval-is) (arc-at .0);
+    }
+
+    pub turn-skips : getD settled (getD (N .heads) a 0) false ≡ true → Turn N source departure settled junction tick interval (getD next a 0) labels predecessors
+    turn-skips done = goes-on (skipped (q .accepted) (t .settling) a (arc-at .0) tail-settled tail-label (one-more N settled junction a next-is) done) (t .tick-is)
+
+    pub turn-offers : getD settled (getD (N .heads) a 0) false ≡ false →
+        Turn N source departure settled junction tick interval (getD next a 0)
+        (lowered labels (getD (N .heads) a 0) (arrivalOn (N .fences) (N .lengths) (N .speeds) a tick))
+        (taken labels predecessors (getD (N .heads) a 0) (arrivalOn (N .fences) (N .lengths) (N .speeds) a tick) a)
+    turn-offers waits =
+        goes-on (offered (q .accepted) (t .settling) a (arc-at .0) tail-settled tail-label (one-more N settled junction a next-is) waits)
+        (settled-stays (q .accepted) (t .settling) a (arc-at .0) tail-settled tail-label (one-more N settled junction a next-is) waits junction (t .junction-settled) ∙ t .tick-is)
+
+    -- the next arc has a higher number
+    pub next-higher : (getD next a 0 ≡ noArc) ⊎ (a < getD next a 0)
+    next-higher = ⊎-elim (λ e. inl (next-is ∙ e)) (λ f. inr (omega (arith, next-is, f .2))) (arc-from (N .tails) junction (suc a) (arc-at .0))
+
+  pub turn-ends : {settled : List Bool} {labels predecessors : List ℕ} {junction tick interval a : ℕ} → Turn N source departure settled junction tick interval a labels predecessors → a ≡ noArc →
+      Round N source departure settled labels predecessors
+  turn-ends {tick} t done = record {
+    tick = tick;
+    settling = settling-weakens (t .settling) (λ b h d. (h, d, λ _. omega (arith, q .accepted .arcs-fit)));
+    settled-long = t .settled-long;
+  }

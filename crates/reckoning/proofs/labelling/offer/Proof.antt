@@ -1,0 +1,81 @@
+-- `labelling::offer` leaves the tables as `lowered` and `taken` say: the label that it reckons is the arc's arrival, and each return
+-- stands for one way in which that compares with the head's label.
+use borrow.Author.Needs.{needs}
+use Prim.Native.Nat.{ℕ, _-_, _+_, _*_, _<_}
+use mathlib.Core.Path.{_≡_, sym, ap, _∙_}
+use native.Mathlib.Nat.{add-sub-cancel-left}
+use native.Mathlib.Omega.{arith}
+use lib.ListN.{length, getD, take, drop}
+use denote.Ref.{now}
+use Rattle.model.specs.Ticks.{never}
+use Rattle.model.proofs.Arrival.{arrival-by-last}
+use Rattle.reckoning.specs.Labelling.{labelOf, arrivalOn}
+use Rattle.reckoning.proofs.Offered.{label-of-tick, leaves-lower, leaves-unreached, leaves-tie, leaves-tie-kept, leaves-later}
+use Rattle.reckoning.proofs.labelling.offer.Statement.{statement}
+use Rattle.reckoning.proofs.labelling.offer.Tie as tie
+
+abbrev start : tie.After-label-of → tie.Start
+start c = c .before .before .before .before .before .before .before .before .before
+
+abbrev arrival : tie.After-label-of → ℕ
+arrival c = arrivalOn (now (start c .args .fences)) (now (start c .args .lengths)) (now (start c .args .speeds)) (start c .args .a) (start c .args .tick)
+
+arrival-is : (c : tie.After-label-of) → c .label-of .result ≡ arrival c
+arrival-is c =
+    c .label-of .ensures
+    ∙ ap labelOf (c .before .drive .ensures)
+    ∙ rw add-sub-cancel-left (label-of-tick (arrival c) (arrival-by-last _ _ _))
+
+-- what the head's label is, and that an arrival which is not never lies below it
+reached : (c : tie.Else2) → c .before .before .before .label-of .result < never
+reached c = omega (arith, c .before .before .before .label-of .ok, c .if2 .left)
+
+drive-requires : tie.Need-drive-requires
+drive-requires c κs = rw add-sub-cancel-left (c .before .before .before .before .before .before .before .pre .drivable)
+
+returns : tie.Need-returns
+returns c = leaves-lower (now (start (c .before .before) .args .labels)) (now (start (c .before .before) .args .predecessors)) (start (c .before .before) .args .head) (start (c .before .before) .args .a) (arrival-is (c .before .before)) (c .if1 .taken)
+
+returns-2 : tie.Need-returns-2
+returns-2 c = leaves-unreached (now (start (c .before .before .before) .args .labels)) (now (start (c .before .before .before) .args .predecessors)) (start (c .before .before .before) .args .head) (start (c .before .before .before) .args .a) (arrival-is (c .before .before .before)) (c .before .if1 .left) (c .if2 .taken)
+
+returns-3 : tie.Need-returns-3
+returns-3 c = leaves-tie (now (start (c .before .before .before .before .before .before) .args .labels)) (now (start (c .before .before .before .before .before .before) .args .predecessors)) (start (c .before .before .before .before .before .before) .args .head) (start (c .before .before .before .before .before .before) .args .a) (arrival-is (c .before .before .before .before .before .before)) (c .before .before .before .before .if1 .left) (reached (c .before .before .before)) (c .before .before .if3 .taken) (c .if4 .taken)
+
+returns-4 : tie.Need-returns-4
+returns-4 c = leaves-tie-kept (now (start (c .before .before .before .before .before .before) .args .labels)) (now (start (c .before .before .before .before .before .before) .args .predecessors)) (start (c .before .before .before .before .before .before) .args .head) (start (c .before .before .before .before .before .before) .args .a) (arrival-is (c .before .before .before .before .before .before)) (c .before .before .before .before .if1 .left) (reached (c .before .before .before)) (c .before .before .if3 .taken) (c .if4 .left)
+
+returns-5 : tie.Need-returns-5
+returns-5 c = leaves-later (now (start (c .before .before .before .before) .args .labels)) (now (start (c .before .before .before .before) .args .predecessors)) (start (c .before .before .before .before) .args .head) (start (c .before .before .before .before) .args .a) (arrival-is (c .before .before .before .before)) (c .before .before .if1 .left) (reached (c .before)) (c .if3 .left)
+
+pub offer-spec : {M : Type 1} → statement M
+offer-spec =
+    tie.close
+    (tie.spec
+    (λ c. search needs)
+    (λ c. search needs)
+    (λ c. search needs)
+    (λ c. search needs)
+    (λ c. search needs)
+    (λ c. search needs)
+    (λ c. search needs)
+    drive-requires
+    (λ c κs. search needs)
+    (λ c. search needs)
+    (λ c. search needs)
+    (λ c. search needs)
+    (λ c. search needs)
+    (λ c. search needs)
+    (λ c. search needs)
+    (λ c. search needs)
+    (λ c. search needs)
+    returns
+    returns-2
+    (λ c. search needs)
+    (λ c. search needs)
+    (λ c. search needs)
+    (λ c. search needs)
+    (λ c. search needs)
+    returns-3
+    returns-4
+    returns-5)

@@ -1,0 +1,84 @@
+-- What the parts of the labelling do, for their contracts inside the crate.
+use Prim.Native.Nat.{ℕ, suc, _+_, _*_, _≤_, _<_}
+use mathlib.Core.Path.{_≡_}
+use mathlib.Core.Bool.{Bool, false, _&&_, cond}
+use mathlib.Core.List.{List, [], _∷_}
+use mathlib.Core.Option.{Option, none, some}
+use lib.Dec.{ltb, eqb}
+use lib.ListN.{length, getD, set, take, drop}
+use Rattle.model.specs.Ticks.{day, never}
+use Rattle.model.specs.Flow.{spansOf, arrival}
+use Rattle.model.specs.Intervals.{speedAt}
+use Rattle.model.specs.Labels.{noArc}
+use Rattle.model.specs.Network.{Network, Accepted}
+use Rattle.reckoning.specs.Drive.{Drivable}
+
+-- ---- The arcs of a tail
+
+-- The first arc with this tail, where the list's first arc has the number a, or none.
+unfoldable pub firstArc : List ℕ → ℕ → ℕ → ℕ
+firstArc [] tail a = noArc
+firstArc (t ∷ tails) tail a = cond (eqb t tail) a (firstArc tails tail (suc a))
+
+-- The same from arc a of the table on.
+abbrev pub arcFrom : List ℕ → ℕ → ℕ → ℕ
+arcFrom tails tail a = firstArc (drop a tails) tail a
+
+-- From each tail to its first arc, and from each arc to the next with the same tail.
+pub record Linked (tails first next : List ℕ) : Type 0 where
+  pub first-is : (tail : ℕ) → tail < 200 → getD first tail 0 ≡ arcFrom tails tail 0
+  pub next-is : (a : ℕ) → a < length tails → getD next a 0 ≡ arcFrom tails (getD tails a 0) (suc a)
+
+-- ---- The nearest junction
+
+-- A junction that is not settled and whose label is the least of those, or the junction count where none of them is reached.
+pub record Nearest (labels : List ℕ) (settled : List Bool) (junction : ℕ) : Type 0 where
+  pub within : junction ≤ length labels
+  pub unsettled : junction < length labels → getD settled junction false ≡ false
+  pub reached : junction < length labels → getD labels junction 0 < never
+  pub least : junction < length labels → (k : ℕ) → k < length labels → getD settled k false ≡ false → getD labels junction 0 ≤ getD labels k 0
+  pub none-left : junction ≡ length labels → (k : ℕ) → k < length labels → getD settled k false ≡ false → never ≤ getD labels k 0
+
+-- ---- An arc's offer
+
+-- An arrival as a label.
+abbrev pub labelOf : Option ℕ → ℕ
+labelOf (some t) = t
+labelOf none = never
+
+-- The speeds of an arc, and its arrival when left at a tick.
+abbrev pub arcSpeeds : List ℕ → List ℕ → ℕ → List ℕ
+arcSpeeds fences speeds a = take (length fences) (drop (a * length fences) speeds)
+
+abbrev pub arrivalOn : List ℕ → List ℕ → List ℕ → ℕ → ℕ → ℕ
+arrivalOn fences lengths speeds a tick = arrival (speedAt fences (arcSpeeds fences speeds a)) (spansOf (getD lengths a 0)) tick
+
+-- An earlier arrival lowers the head's label.
+abbrev pub lowered : List ℕ → ℕ → ℕ → List ℕ
+lowered labels head t = cond (ltb t (getD labels head 0)) (set labels head t) labels
+
+-- Of the arcs that arrive at the head's label, the lowest-numbered is its predecessor.
+abbrev pub taken : List ℕ → List ℕ → ℕ → ℕ → ℕ → List ℕ
+taken labels predecessors head t a =
+    cond (ltb t (getD labels head 0)) (set predecessors head a)
+    (cond (ltb t never && eqb t (getD labels head 0) && ltb a (getD predecessors head 0)) (set predecessors head a) predecessors)
+
+-- What an offer is handed.
+pub record Offerable (a head tick interval : ℕ) (fences lengths speeds labels predecessors : List ℕ) : Type 0 where
+  pub few-arcs : a < 640
+  pub few-intervals : length fences ≤ 96
+  pub has-length : a < length lengths
+  pub has-speeds : a * length fences + length fences ≤ length speeds
+  pub has-label : head < length labels
+  pub has-predecessor : head < length predecessors
+  pub drivable : Drivable tick interval (getD lengths a 0) fences (arcSpeeds fences speeds a)
+
+-- ---- The whole
+
+-- What the labelling is handed: an accepted network, a question that it takes, and buffers of the right length.
+pub record Labelable (N : Network) (source departure : ℕ) (labels predecessors : List ℕ) : Type 0 where
+  pub accepted : Accepted N
+  pub source-below : source < N .junctions
+  pub departure-below : departure < day
+  pub labels-long : length labels ≡ N .junctions
+  pub predecessors-long : length predecessors ≡ N .junctions

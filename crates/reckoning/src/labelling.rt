@@ -1,0 +1,166 @@
+// The labelling of documents 000 and 004 (Dijkstra's): settle the nearest junction that is not settled yet, and drive its arcs.
+ghost use mathlib.Core.Path.{_≡_};
+ghost use Prim.Native.Nat.{ℕ, _≤_, _<_};
+ghost use lib.ListN.{length, getD, replicate};
+ghost use Rattle.model.specs.Ticks.{never, arrivedAt};
+ghost use Rattle.model.specs.Labels.{noArc, labelsOf, predecessorsOf};
+ghost use Rattle.model.specs.Network.{network, netOf};
+ghost use Rattle.reckoning.specs.Labelling.{Linked, Nearest, Offerable, Labelable, labelOf, arrivalOn, lowered, taken};
+use crate::drive::drive;
+use crate::drive::fences_passed;
+use model::label::NO_ARC;
+use model::label::UNREACHED;
+use model::tick::Arrival;
+
+// Marks every junction as unreached.
+fn clear(labels: &mut [u32], predecessors: &mut [u16])
+    requires { ⌜ length (now predecessors) ≡ length (now labels) ⌝ }
+    ensures labels { λ _. ⌜ now (labels .exit) ≡ replicate (length (now (labels .entry))) never ⌝ }
+    ensures predecessors { λ _. ⌜ now (predecessors .exit) ≡ replicate (length (now (labels .entry))) noArc ⌝ }
+{
+    let mut j = 0;
+    while j < labels.len() {
+        labels[j] = UNREACHED;
+        predecessors[j] = NO_ARC;
+        j += 1;
+    }
+}
+
+// Links the arcs of each tail in rising order: the first of them, and after each the next.
+fn link_arcs(tails: &[u16], first: &mut [u16; 200], next: &mut [u16; 640])
+    requires { ⌜ length (now tails) ≤ 640 ⌝ }
+    requires { ⌜ ((a : ℕ) → a < length (now tails) → getD (now tails) a 0 < 200) ⌝ }
+    requires { ⌜ now first ≡ replicate 200 noArc ⌝ }
+    requires { ⌜ now next ≡ replicate 640 noArc ⌝ }
+    ensures { λ _. ⌜ Linked (now (tails .entry)) (now (first .exit)) (now (next .exit)) ⌝ }
+{
+    let mut a = tails.len();
+    while 0 < a {
+        a -= 1;
+        let tail = tails[a] as usize;
+        next[a] = first[tail];
+        first[tail] = a as u16;
+    }
+}
+
+// The junction with the least label of those that are reached and not settled, or the junction count where there is none.
+fn nearest(labels: &[u32], settled: &[bool; 200]) -> usize
+    requires { ⌜ length (now labels) ≤ 200 ⌝ }
+    ensures { λ r. ⌜ Nearest (now (labels .entry)) (now (settled .entry)) r ⌝ }
+{
+    let mut best = labels.len();
+    let mut least = UNREACHED;
+    let mut j = 0;
+    while j < labels.len() {
+        if !settled[j] {
+            let label = labels[j];
+            if label < least {
+                best = j;
+                least = label;
+            }
+        }
+        j += 1;
+    }
+    best
+}
+
+// The arrival as a label.
+fn label_of(arrival: Arrival) -> u32
+    ensures { λ r. ⌜ r ≡ labelOf (arrivedAt arrival) ⌝ }
+{
+    match arrival {
+        Arrival::At(tick) => tick.number,
+        Arrival::Never => UNREACHED,
+    }
+}
+
+// Drives an arc from its tail's label: an earlier arrival lowers its head's label, and of the arcs that arrive at the label
+// the lowest-numbered is the predecessor.
+fn offer(
+    a: u16,
+    head: usize,
+    tick: u32,
+    interval: usize,
+    fences: &[u32],
+    lengths: &[u32],
+    speeds: &[u8],
+    labels: &mut [u32],
+    predecessors: &mut [u16],
+)
+    requires { ⌜ Offerable a head tick interval (now fences) (now lengths) (now speeds) (now labels) (now predecessors) ⌝ }
+    ensures labels { λ _. ⌜ now (labels .exit) ≡ lowered (now (labels .entry)) head (arrivalOn (now (fences .entry)) (now (lengths .entry)) (now (speeds .entry)) a tick) ⌝ }
+    ensures predecessors { λ _. ⌜ now (predecessors .exit) ≡ taken (now (labels .entry)) (now (predecessors .entry)) head (arrivalOn (now (fences .entry)) (now (lengths .entry)) (now (speeds .entry)) a tick) a ⌝ }
+{
+    let arc = a as usize;
+    let from = arc * fences.len();
+    let to = from + fences.len();
+    let arrival = label_of(drive(tick, interval, lengths[arc], fences, &speeds[from..to]));
+    let label = labels[head];
+    if arrival < label {
+        labels[head] = arrival;
+        predecessors[head] = a;
+        return;
+    }
+    if arrival == UNREACHED {
+        return;
+    }
+    if arrival == label {
+        if a < predecessors[head] {
+            predecessors[head] = a;
+        }
+    }
+}
+
+// Writes the labels and the predecessors of a network that is accepted.
+pub(crate) fn label_all(
+    junctions: usize,
+    fences: &[u32],
+    tails: &[u16],
+    heads: &[u16],
+    lengths: &[u32],
+    speeds: &[u8],
+    source: usize,
+    departure: u32,
+    labels: &mut [u32],
+    predecessors: &mut [u16],
+)
+    requires { ⌜ Labelable (network junctions (now fences) (now tails) (now heads) (now lengths) (now speeds)) source departure (now labels) (now predecessors) ⌝ }
+    ensures labels { λ _. ⌜ now (labels .exit) ≡ labelsOf (netOf (network junctions (now (fences .entry)) (now (tails .entry)) (now (heads .entry)) (now (lengths .entry)) (now (speeds .entry)))) source departure ⌝ }
+    ensures predecessors { λ _. ⌜ now (predecessors .exit) ≡ predecessorsOf (netOf (network junctions (now (fences .entry)) (now (tails .entry)) (now (heads .entry)) (now (lengths .entry)) (now (speeds .entry)))) source departure ⌝ }
+{
+    clear(labels, predecessors);
+    labels[source] = departure;
+    let mut first = [NO_ARC; 200];
+    let mut next = [NO_ARC; 640];
+    link_arcs(tails, &mut first, &mut next);
+    let mut settled = [false; 200];
+    loop {
+        let junction = nearest(labels, &settled);
+        if junction == junctions {
+            break;
+        }
+        settled[junction] = true;
+        let tick = labels[junction];
+        let interval = fences_passed(fences, tick) - 1;
+        let mut a = first[junction];
+        while a != NO_ARC {
+            let arc = a as usize;
+            let head = heads[arc] as usize;
+            // A settled junction is no later than the tick, so no arc from here reaches it sooner.
+            if !settled[head] {
+                offer(
+                    a,
+                    head,
+                    tick,
+                    interval,
+                    fences,
+                    lengths,
+                    speeds,
+                    labels,
+                    predecessors,
+                );
+            }
+            a = next[arc];
+        }
+    }
+}

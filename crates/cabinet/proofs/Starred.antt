@@ -7,7 +7,7 @@ use mathlib.Core.Option.{Option}
 use native.Mathlib.Omega.{arith}
 use Rattle.model.specs.Ticks.{tick?}
 use Rattle.model.specs.Flow.{spansOf, covered, firstTick, arrival}
-use Rattle.model.specs.Intervals.{intervalWalk, interval, passed, speedAt, tries}
+use Rattle.model.specs.Intervals.{intervalWalk, walkFrom, endsOf, interval, passed, speedAt, tries}
 use Rattle.model.specs.Labels.{offer, offers, within, labelsOf}
 use Rattle.model.specs.Network.{Network, netOf, driveOf}
 use Rattle.model.specs.NetworkRules.{endsKeep, networkCheck}
@@ -29,7 +29,7 @@ town-row : (N : Network) (source departure : ℕ) (labels : List ℕ) → networ
 town-row N source departure labels accepted computed = (accepted, computed)
 
 pub starred-rows : StarredRows
-unfolding intervalWalk interval passed tries firstBroken every riseFrom fencesKeep networkCheck endsKeep labelsOf within offers offer driveOf speedAt arrival firstTick covered
+unfolding intervalWalk walkFrom endsOf interval passed tries firstBroken every riseFrom fencesKeep networkCheck endsKeep labelsOf within offers offer driveOf speedAt arrival firstTick covered
 starred-rows =
     arc-row _ _ _ _ _ refl refl
     also arc-row _ _ _ _ _ refl refl

@@ -6,14 +6,13 @@ use mathlib.Core.Path.{_≡_, ap, _∙_, subst}
 use mathlib.Core.List.{List, [], _∷_, _++_}
 use mathlib.Core.Logic.{⊎-elim}
 use native.Mathlib.Nat.{add-zero, add-suc, eq-zero-or-pos, div-lt-iff-lt-mul, le-div-iff-mul-le, mul-zero, suc-inj, le-of-lt}
-use native.Mathlib.Numerals.{one-add}
 use native.Mathlib.Omega.{arith}
 use lib.ListN.{length, getD, drop, length-drop}
-use lib.Seq.{getD-drop, drop-drop, drop-append-le}
+use lib.Seq.{getD-drop, drop-append-le}
 use borrow.Author.Tests.{le-leb, lt-leb}
 use Rattle.model.specs.Ticks.{last}
 use Rattle.model.specs.Flow.{covered, arrival, IsArrival}
-use Rattle.model.specs.Intervals.{FencesKept, passed, interval, speedAt, ticksFor, tries, endsOf, intervalWalk, WalkIsArrival}
+use Rattle.model.specs.Intervals.{FencesKept, passed, interval, speedAt, ticksFor, tries, endsOf, walkFrom, intervalWalk, WalkIsArrival}
 use Rattle.model.proofs.Tests.{leb-cases}
 use Rattle.model.proofs.Covered.{covered-add, covered-more, covered-steady}
 use Rattle.model.proofs.Arrival.{arrival-is-least}
@@ -111,6 +110,11 @@ unfolding passed
 some-passed [] t kept some-fence = absurd (omega arith)
 some-passed (f ∷ fs) t kept some-fence = rw (le-leb f t (omega (arith, kept .first-is-0))) (omega arith)
 
+drop-ends : (fences : List ℕ) (k : ℕ) → k < length fences → drop k (endsOf fences) ≡ drop (suc k) fences ++ (last ∷ [])
+unfolding endsOf
+drop-ends [] k h = absurd (omega arith)
+drop-ends (f ∷ fs) k h = drop-append-le k fs (last ∷ []) (omega arith)
+
 module _ (fences speeds : List ℕ) (s k : ℕ) (kept : FencesKept fences) (as-many : length speeds ≡ length fences) (in-time : s ≤ last) (within : suc k ≡ passed fences s) where
   later-fences : Ahead s (drop (suc k) fences)
   later-fences =
@@ -128,11 +132,10 @@ module _ (fences speeds : List ℕ) (s k : ℕ) (kept : FencesKept fences) (as-m
 
   -- the ends from this interval on are the fences after it, and the last tick
   ends-from : drop k (endsOf fences) ≡ drop (suc k) fences ++ (last ∷ [])
-  ends-from =
-      let inside : k ≤ length (drop 1 fences) = omega (arith, length-drop 1 fences, passed-at-most fences s) in
-      rw (drop-append-le, drop-drop, one-add)
+  ends-from = drop-ends fences k (omega (arith, passed-at-most fences s))
 
-  pub walk-from : (spans : ℕ) → 0 < spans → tries (drop k (endsOf fences)) (drop k speeds) s spans ≡ arrival (speedAt fences speeds) spans s
+  pub walk-from : (spans : ℕ) → 0 < spans → walkFrom fences speeds k s spans ≡ arrival (speedAt fences speeds) spans s
+  unfolding walkFrom
   walk-from spans some =
       rw ends-from
       (arrival-is-least (speedAt fences speeds) spans s (tries (drop (suc k) fences ++ (last ∷ [])) (drop k speeds) s spans) .1

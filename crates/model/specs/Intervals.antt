@@ -43,14 +43,17 @@ tries [] speeds at left = never
 tries (end ∷ ends) [] at left = never
 
 -- The tick at which each interval ends: the next fence, and for the last interval, which counts that far, the last tick.
-abbrev pub endsOf : List ℕ → List ℕ
-endsOf fences = drop 1 fences ++ (last ∷ [])
+unfoldable pub endsOf : List ℕ → List ℕ
+endsOf [] = []
+endsOf (fence ∷ fences) = fences ++ (last ∷ [])
+
+-- The walk from interval k on.
+unfoldable pub walkFrom : List ℕ → List ℕ → ℕ → ℕ → ℕ → ℕ
+walkFrom fences speeds k at left = tries (drop k (endsOf fences)) (drop k speeds) at left
 
 -- The walk from the interval of the departure on.
 unfoldable pub intervalWalk : List ℕ → List ℕ → ℕ → ℕ → ℕ
-intervalWalk fences speeds spans s =
-    let k = interval fences s in
-    tries (drop k (endsOf fences)) (drop k speeds) s spans
+intervalWalk fences speeds spans s = walkFrom fences speeds (interval fences s) s spans
 
 -- ---- What is proved of it
 

@@ -11,4 +11,4 @@ pub const MAX_LENGTH: u32 = 100_000;
 // In kilometres an hour, which is as many spans a tick.
 pub const MAX_SPEED: u8 = 200;
 
-pub const SPANS_PER_METRE: u32 = 36;
+pub const SPANS_PER_METRE: u64 = 36;

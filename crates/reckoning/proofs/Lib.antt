@@ -1,12 +1,11 @@
 pub mod ArcRules
+pub mod Drivable
+pub mod EndsScan
 pub mod Filled
 pub mod Flags
-pub mod Intervals
 pub mod LabelRules
 pub mod Linking
 pub mod Nearing
 pub mod Offered
-pub mod Scan
 pub mod Settling
-pub mod Trying
 pub mod Turns

@@ -1,4 +1,4 @@
--- What the engine that drives an arc is handed: a departure with its interval, and an arc that keeps the rules.
+-- A departure with its interval, and an arc that keeps the rules: on these the engine gives the arrival.
 use Prim.Native.Nat.{ℕ, suc, _≤_, _<_}
 use mathlib.Core.Path.{_≡_}
 use mathlib.Core.List.{List}

@@ -1,12 +1,12 @@
 // Arc arrival: when a vehicle that leaves an arc's tail at a tick reaches its head.
 ghost use mathlib.Core.Path.{_≡_};
 ghost use Rattle.reckoning.specs.ArcArrival.{arcArrival, outcomeOf};
-use crate::check::fences_keep;
-use crate::check::interval_count_keeps;
-use crate::check::length_keeps;
-use crate::check::speeds_keep;
-use crate::drive::drive;
-use crate::drive::fences_passed;
+use driving::drive::drive;
+use driving::drive::fences_passed;
+use driving::rule::fences_keep;
+use driving::rule::interval_count_keeps;
+use driving::rule::length_keeps;
+use driving::rule::speeds_keep;
 use model::refusal::Refusal;
 use model::tick::Arrival;
 use model::tick::Tick;

@@ -2,7 +2,6 @@
 // the numbers, and otherwise replies; none asks anything of its caller.
 pub mod arc;
 mod check;
-mod drive;
 mod labelling;
 pub mod labels;
 pub mod network;

@@ -4,12 +4,12 @@ ghost use Rattle.model.specs.Network.{network};
 ghost use Rattle.model.specs.NetworkRules.{networkCheck};
 ghost use Rattle.reckoning.specs.NetworkCheck.{outcomeOf};
 use crate::check::ends_keep;
-use crate::check::fences_keep;
-use crate::check::interval_count_keeps;
 use crate::check::junction_count_keeps;
-use crate::check::lengths_keep;
-use crate::check::speeds_keep;
 use crate::check::tables_agree;
+use driving::rule::fences_keep;
+use driving::rule::interval_count_keeps;
+use driving::rule::lengths_keep;
+use driving::rule::speeds_keep;
 use model::limit::MAX_ARCS;
 use model::refusal::Refusal;
 

@@ -1,7 +1,7 @@
 -- `arc::arc_arrival` meets its definition: each test that the code runs is the rule's own, so what is known at a place says of each
 -- rule before it that it is kept (`kept₁` to `kept₆`). Where all are kept, the engine gives the reply.
 use borrow.Author.Needs.{needs}
-use Prim.Native.Nat.{_<_}
+use Prim.Native.Nat.{_-_, _<_}
 use mathlib.Core.Path.{_≡_, sym, ap, _∙_}
 use mathlib.Core.Bool.{not}
 use mathlib.Core.List.{List}
@@ -10,13 +10,14 @@ use lib.ListN.{take}
 use denote.Ref.{now}
 use borrow.Author.Tests.{eq-eqb, ne-eqb, le-ltb, lt-ltb}
 use Rattle.model.specs.Rules.{Rule, replied}
-use Rattle.model.specs.Ticks.{arrivedAt}
+use Rattle.model.specs.Ticks.{tick?, arrivedAt}
 use Rattle.model.specs.Intervals.{passed}
 use Rattle.model.proofs.Rules.{AllKept, kept-next, refused-at}
 use Rattle.model.proofs.IntervalWalk.{some-passed}
 use Rattle.reckoning.specs.ArcArrival.{arcRules, arcArrival, ArcAccepted}
 use Rattle.reckoning.specs.Drive.{Drivable}
 use Rattle.reckoning.proofs.ArcRules.{kept-accepted, replies}
+use Rattle.reckoning.proofs.Drivable.{walk-is-drivable-arrival}
 use Rattle.reckoning.proofs.Flags.{as-test}
 use Rattle.reckoning.proofs.arc.arc_arrival.Statement.{statement}
 use Rattle.reckoning.proofs.arc.arc_arrival.Tie as tie
@@ -66,9 +67,21 @@ accepted c = kept-accepted _ _ _ _ (kept₆ c)
 reached : (c : tie.Else6) → 0 < passed (now (start₆ c .args .fences)) (start₆ c .args .departure .number)
 reached c = some-passed _ _ (accepted c .fences-kept) (accepted c .some-interval)
 
+drivable : (c : tie.After-fences-passed) → Drivable (start₆ (c .before) .args .departure .number) (c .fences-passed .result - 1) (start₆ (c .before) .args .metres) (now (start₆ (c .before) .args .fences)) (now (start₆ (c .before) .args .speeds))
+drivable c = let a = accepted (c .before) in
+    record {
+      in-time = a .in-time;
+      in-interval = omega (arith, c .fences-passed .ensures, reached (c .before));
+      some-length = a .some-length;
+      length-fits = a .length-fits;
+      fences-kept = a .fences-kept;
+      as-many = a .as-many;
+      speed-fits = a .speed-fits;
+    }
+
 -- the reply is what the engine gave
 replied-as : (c : tie.After-drive) → arcArrival (start₆ (c .before .before) .args .departure .number) (start₆ (c .before .before) .args .metres) (now (start₆ (c .before .before) .args .fences)) (now (start₆ (c .before .before) .args .speeds)) ≡ replied (arrivedAt (c .drive .result))
-replied-as c = replies _ _ _ _ (kept₆ (c .before .before)) ∙ ap replied (sym (c .drive .ensures))
+replied-as c = replies _ _ _ _ (kept₆ (c .before .before)) ∙ ap replied (sym (c .drive .ensures ∙ ap tick? (walk-is-drivable-arrival (drivable (c .before)))))
 
 returns : tie.Need-returns
 unfolding arcArrival
@@ -97,18 +110,6 @@ returns-6 c = refused-at (rules (start₅ (c .before .before))) _ 5 (kept₅ (c 
 sub-interval : tie.Need-sub-interval
 sub-interval c = omega (arith, c .fences-passed .ensures, reached (c .before))
 
-drive-requires : tie.Need-drive-requires
-drive-requires c κs = let a = accepted (c .before) in
-    record {
-      in-time = a .in-time;
-      in-interval = omega (arith, c .fences-passed .ensures, reached (c .before));
-      some-length = a .some-length;
-      length-fits = a .length-fits;
-      fences-kept = a .fences-kept;
-      as-many = a .as-many;
-      speed-fits = a .speed-fits;
-    }
-
 returns-7 : tie.Need-returns-7
 returns-7 c = sym (replied-as (c .before .before .before) ∙ ap (λ r. replied (arrivedAt r)) (c .before .arrival .given .1))
 
@@ -131,7 +132,7 @@ arc-arrival-spec =
     returns-6
     (λ c κs. search needs)
     sub-interval
-    drive-requires
+    (λ c κs. search needs)
     (λ c. search needs)
     (λ c. search needs)
     returns-7

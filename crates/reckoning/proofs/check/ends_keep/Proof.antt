@@ -6,7 +6,7 @@ use native.Mathlib.Omega.{arith}
 use lib.ListN.{length, drop}
 use mir.Facts.{fits-widen}
 use Rattle.model.specs.NetworkRules.{endsKeep}
-use Rattle.reckoning.proofs.Scan.{tail-fails, head-fails, ends-same, ends-go-on, ends-end}
+use Rattle.reckoning.proofs.EndsScan.{tail-fails, head-fails, ends-same, ends-go-on, ends-end}
 use Rattle.reckoning.proofs.check.ends_keep.Statement.{statement}
 use Rattle.reckoning.proofs.check.ends_keep.Tie as tie
 

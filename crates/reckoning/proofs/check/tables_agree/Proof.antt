@@ -1,11 +1,17 @@
 -- `check::tables_agree` is the test `tablesAgree`: where one table's length differs, the whole fails.
-use mathlib.Core.Path.{_≡_, refl}
+use Prim.Native.Nat.{ℕ, _*_, _≤_}
+use mathlib.Core.Path.{_≡_}
 use mathlib.Core.Bool.{Bool, true, _&&_}
+use mir.Syntax.{w64}
+use mir.Val.{Fits}
 use native.Mathlib.Nat.{mul-le-mul}
 use native.Mathlib.Omega.{arith}
 use borrow.Author.Tests.{eq-eqb, ne-eqb}
 use Rattle.reckoning.proofs.check.tables_agree.Statement.{statement}
 use Rattle.reckoning.proofs.check.tables_agree.Tie as tie
+
+short-product : (m n : ℕ) → m ≤ 640 → n ≤ 640 → Fits w64 (m * n)
+short-product m n p q = omega (arith, mul-le-mul {n₂ = 640} {m₂ = 640} p q)
 
 rest-decides : {a b t : Bool} → a ≡ true → b ≡ true → t ≡ (a && b && t)
 rest-decides p q = rw (p, q)
@@ -17,7 +23,7 @@ returns-2 : tie.Need-returns-2
 returns-2 c = simp (eq-eqb _ _ (c .before .if1 .left), ne-eqb _ _ (c .if2 .taken))
 
 mul-result : tie.Need-mul-result
-mul-result c = omega (arith, mul-le-mul {n₂ = 640} {m₂ = 96} (c .before .before .pre .1) (c .before .before .pre .0))
+mul-result c = short-product _ _ (omega (arith, c .before .before .pre)) (omega (arith, c .before .before .pre))
 
 returns-3 : tie.Need-returns-3
 returns-3 c = rest-decides (eq-eqb _ _ (c .before .if1 .left)) (eq-eqb _ _ (c .if2 .left))

@@ -90,7 +90,7 @@ nearest-requires : tie.Need-nearest-requires Inv-loop2 μ-loop2 Inv-loop μ-loop
 nearest-requires c κs = omega (arith, c .before .before .loop .inv .1 .settling .labels-long, start-of (c .before .before) .pre .accepted .junctions-fit)
 
 array-write-settled : tie.Need-array-write-settled Inv-loop2 μ-loop2 Inv-loop μ-loop
-array-write-settled c = below c
+array-write-settled c = omega (arith, below c, start-of (at-loop c) .pre .source-below, start-of (at-loop c) .pre .accepted .junctions-fit)
 
 mul-tick : tie.Need-mul-tick Inv-loop2 μ-loop2 Inv-loop μ-loop
 mul-tick c = omega (arith, below c)

@@ -7,9 +7,12 @@ use native.Mathlib.Nat.{add-sub-cancel-left}
 use native.Mathlib.Omega.{arith}
 use lib.ListN.{length, getD, take, drop}
 use denote.Ref.{now}
-use Rattle.model.specs.Ticks.{never}
+use Rattle.model.specs.Ticks.{never, tick?}
+use Rattle.model.specs.Flow.{spansOf}
+use Rattle.model.specs.Intervals.{walkFrom}
 use Rattle.model.proofs.Arrival.{arrival-by-last}
 use Rattle.reckoning.specs.Labelling.{labelOf, arrivalOn}
+use Rattle.reckoning.proofs.Drivable.{walk-is-drivable-arrival}
 use Rattle.reckoning.proofs.Offered.{label-of-tick, leaves-lower, leaves-unreached, leaves-tie, leaves-tie-kept, leaves-later}
 use Rattle.reckoning.proofs.labelling.offer.Statement.{statement}
 use Rattle.reckoning.proofs.labelling.offer.Tie as tie
@@ -20,18 +23,19 @@ start c = c .before .before .before .before .before .before .before .before .bef
 abbrev arrival : tie.After-label-of → ℕ
 arrival c = arrivalOn (now (start c .args .fences)) (now (start c .args .lengths)) (now (start c .args .speeds)) (start c .args .a) (start c .args .tick)
 
+-- the engine's walk over the arc's part of the speeds
+walked : (c : tie.After-label-of) → walkFrom (now (start c .args .fences)) (take (start c .args .a * length (now (start c .args .fences)) + length (now (start c .args .fences)) - start c .args .a * length (now (start c .args .fences))) (drop (start c .args .a * length (now (start c .args .fences))) (now (start c .args .speeds)))) (start c .args .interval) (start c .args .tick) (spansOf (getD (now (start c .args .lengths)) (start c .args .a) 0)) ≡ arrival c
+walked c = rw add-sub-cancel-left (walk-is-drivable-arrival (start c .pre .drivable))
+
 arrival-is : (c : tie.After-label-of) → c .label-of .result ≡ arrival c
 arrival-is c =
     c .label-of .ensures
-    ∙ ap labelOf (c .before .drive .ensures)
-    ∙ rw add-sub-cancel-left (label-of-tick (arrival c) (arrival-by-last _ _ _))
+    ∙ ap labelOf (c .before .drive .ensures ∙ ap tick? (walked c))
+    ∙ label-of-tick (arrival c) (arrival-by-last _ _ _)
 
 -- what the head's label is, and that an arrival which is not never lies below it
 reached : (c : tie.Else2) → c .before .before .before .label-of .result < never
 reached c = omega (arith, c .before .before .before .label-of .ok, c .if2 .left)
-
-drive-requires : tie.Need-drive-requires
-drive-requires c κs = rw add-sub-cancel-left (c .before .before .before .before .before .before .before .pre .drivable)
 
 returns : tie.Need-returns
 returns c = leaves-lower (now (start (c .before .before) .args .labels)) (now (start (c .before .before) .args .predecessors)) (start (c .before .before) .args .head) (start (c .before .before) .args .a) (arrival-is (c .before .before)) (c .if1 .taken)
@@ -59,7 +63,7 @@ offer-spec =
     (λ c. search needs)
     (λ c. search needs)
     (λ c. search needs)
-    drive-requires
+    (λ c κs. search needs)
     (λ c κs. search needs)
     (λ c. search needs)
     (λ c. search needs)

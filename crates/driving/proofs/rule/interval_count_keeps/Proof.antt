@@ -1,0 +1,17 @@
+-- `rule::interval_count_keeps` is the test `countKeeps`: where the first half fails, so does the whole.
+use borrow.Author.Tests.{lt-ltb, le-ltb}
+use Rattle.driving.proofs.rule.interval_count_keeps.Statement.{statement}
+use Rattle.driving.proofs.rule.interval_count_keeps.Tie as tie
+
+returns : tie.Need-returns
+returns c = simp (lt-ltb _ _ (c .if1 .taken))
+
+returns-2 : tie.Need-returns-2
+returns-2 c = simp (le-ltb _ _ (c .if1 .left))
+
+pub interval-count-keeps-spec : {M : Type 1} → statement M
+interval-count-keeps-spec =
+    tie.close
+    (tie.spec
+    returns
+    returns-2)

@@ -1,0 +1,44 @@
+-- `rule::lengths_keep` is the test `every lengthKeeps` of the whole table: the invariant says so of the entries that are left.
+use borrow.Author.Needs.{needs}
+use Prim.Native.Nat.{_-_}
+use mathlib.Core.Path.{_≡_, refl, sym, _∙_}
+use lib.ListN.{length, drop}
+use borrow.Author.Tests.{not-true, not-false}
+use Rattle.model.specs.Rules.{every, lengthKeeps}
+use Rattle.driving.proofs.Scan.{every-fails, every-goes-on, every-ends}
+use Rattle.driving.proofs.rule.lengths_keep.Statement.{statement}
+use Rattle.driving.proofs.rule.lengths_keep.Tie as tie
+
+abbrev Inv-loop : tie.InvT-loop
+Inv-loop lengths a₀ a = every lengthKeeps (drop a lengths) ≡ every lengthKeeps lengths
+
+abbrev μ-loop : tie.MeasureT-loop
+μ-loop lengths a₀ a = length lengths - a
+
+loop-holds : tie.Need-loop-holds Inv-loop μ-loop
+loop-holds c = refl
+
+returns : tie.Need-returns Inv-loop μ-loop
+returns c = every-fails lengthKeeps _ _ (c .before .before .before .before .loop .inv) (c .before .before .before .loop-test .taken) (sym (c .before .length-keeps .ensures) ∙ not-true _ (c .if1 .taken))
+
+loop-again : tie.Need-loop-again Inv-loop μ-loop
+loop-again c = every-goes-on lengthKeeps _ _ (c .before .before .before .before .loop .inv) (c .before .before .before .loop-test .taken) (sym (c .before .length-keeps .ensures) ∙ not-false _ (c .if1 .left))
+
+returns-2 : tie.Need-returns-2 Inv-loop μ-loop
+returns-2 c = every-ends lengthKeeps _ _ (c .before .loop .inv) (c .loop-test .left)
+
+pub lengths-keep-spec : {M : Type 1} → statement M
+lengths-keep-spec =
+    tie.close
+    (tie.spec
+    Inv-loop
+    μ-loop
+    loop-holds
+    (λ c. search needs)
+    (λ c. search needs)
+    (λ c κs. search needs)
+    returns
+    (λ c. search needs)
+    (λ c. search needs)
+    loop-again
+    returns-2)

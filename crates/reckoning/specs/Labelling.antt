@@ -7,6 +7,7 @@ use mathlib.Core.Option.{Option, none, some}
 use lib.Dec.{ltb, eqb}
 use lib.ListN.{length, getD, set, take, drop}
 use Rattle.model.specs.Ticks.{day, never}
+use Rattle.model.specs.Limits.{maxJunctions, maxArcs, maxIntervals}
 use Rattle.model.specs.Flow.{spansOf, arrival}
 use Rattle.model.specs.Intervals.{speedAt}
 use Rattle.model.specs.Labels.{noArc}
@@ -26,7 +27,7 @@ arcFrom tails tail a = firstArc (drop a tails) tail a
 
 -- From each tail to its first arc, and from each arc to the next with the same tail.
 pub record Linked (tails first next : List ℕ) : Type 0 where
-  pub first-is : (tail : ℕ) → tail < 200 → getD first tail 0 ≡ arcFrom tails tail 0
+  pub first-is : (tail : ℕ) → tail < maxJunctions → getD first tail 0 ≡ arcFrom tails tail 0
   pub next-is : (a : ℕ) → a < length tails → getD next a 0 ≡ arcFrom tails (getD tails a 0) (suc a)
 
 -- ---- The nearest junction
@@ -65,8 +66,8 @@ taken labels predecessors head t a =
 
 -- What an offer is handed.
 pub record Offerable (a head tick interval : ℕ) (fences lengths speeds labels predecessors : List ℕ) : Type 0 where
-  pub few-arcs : a < 640
-  pub few-intervals : length fences ≤ 96
+  pub few-arcs : a < maxArcs
+  pub few-intervals : length fences ≤ maxIntervals
   pub has-length : a < length lengths
   pub has-speeds : a * length fences + length fences ≤ length speeds
   pub has-label : head < length labels

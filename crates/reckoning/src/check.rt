@@ -2,6 +2,7 @@
 ghost use mathlib.Core.Path.{_≡_};
 ghost use Prim.Native.Nat.{_≤_};
 ghost use lib.ListN.{length};
+ghost use Rattle.model.specs.Limits.{maxArcs, maxIntervals};
 ghost use Rattle.model.specs.NetworkRules.{junctionsKeep, tablesAgree, endsKeep};
 use model::limit::MAX_JUNCTIONS;
 
@@ -19,7 +20,7 @@ pub(crate) fn tables_agree(
     lengths: &[u32],
     speeds: &[u8],
 ) -> bool
-    requires { ⌜ (length (now fences) ≤ 96) × (length (now tails) ≤ 640) ⌝ }
+    requires { ⌜ (length (now fences) ≤ maxIntervals) × (length (now tails) ≤ maxArcs) ⌝ }
     ensures { λ r. ⌜ r ≡ tablesAgree (now (fences .entry)) (now (tails .entry)) (now (heads .entry)) (now (lengths .entry)) (now (speeds .entry)) ⌝ }
 {
     if heads.len() != tails.len() {

@@ -4,12 +4,15 @@ ghost use Prim.Native.Nat.{ℕ, _≤_, _<_};
 ghost use lib.ListN.{length, getD, replicate};
 ghost use Rattle.model.specs.Ticks.{never, arrivedAt};
 ghost use Rattle.model.specs.Labels.{noArc, labelsOf, predecessorsOf};
+ghost use Rattle.model.specs.Limits.{maxArcs, maxJunctions};
 ghost use Rattle.model.specs.Network.{network, netOf};
 ghost use Rattle.reckoning.specs.Labelling.{Linked, Nearest, Offerable, Labelable, labelOf, arrivalOn, lowered, taken};
 use driving::drive::drive;
 use driving::drive::fences_passed;
 use model::label::NO_ARC;
 use model::label::UNREACHED;
+use model::limit::MAX_ARCS;
+use model::limit::MAX_JUNCTIONS;
 use model::tick::Arrival;
 
 // Marks every junction as unreached.
@@ -27,11 +30,11 @@ fn clear(labels: &mut [u32], predecessors: &mut [u16])
 }
 
 // Links the arcs of each tail in rising order: the first of them, and after each the next.
-fn link_arcs(tails: &[u16], first: &mut [u16; 200], next: &mut [u16; 640])
-    requires { ⌜ length (now tails) ≤ 640 ⌝ }
-    requires { ⌜ ((a : ℕ) → a < length (now tails) → getD (now tails) a 0 < 200) ⌝ }
-    requires { ⌜ now first ≡ replicate 200 noArc ⌝ }
-    requires { ⌜ now next ≡ replicate 640 noArc ⌝ }
+fn link_arcs(tails: &[u16], first: &mut [u16; MAX_JUNCTIONS], next: &mut [u16; MAX_ARCS])
+    requires { ⌜ length (now tails) ≤ maxArcs ⌝ }
+    requires { ⌜ ((a : ℕ) → a < length (now tails) → getD (now tails) a 0 < maxJunctions) ⌝ }
+    requires { ⌜ now first ≡ replicate maxJunctions noArc ⌝ }
+    requires { ⌜ now next ≡ replicate maxArcs noArc ⌝ }
     ensures { λ _. ⌜ Linked (now (tails .entry)) (now (first .exit)) (now (next .exit)) ⌝ }
 {
     let mut a = tails.len();
@@ -44,8 +47,8 @@ fn link_arcs(tails: &[u16], first: &mut [u16; 200], next: &mut [u16; 640])
 }
 
 // The junction with the least label of those that are reached and not settled, or the junction count where there is none.
-fn nearest(labels: &[u32], settled: &[bool; 200]) -> usize
-    requires { ⌜ length (now labels) ≤ 200 ⌝ }
+fn nearest(labels: &[u32], settled: &[bool; MAX_JUNCTIONS]) -> usize
+    requires { ⌜ length (now labels) ≤ maxJunctions ⌝ }
     ensures { λ r. ⌜ Nearest (now (labels .entry)) (now (settled .entry)) r ⌝ }
 {
     let mut best = labels.len();
@@ -130,10 +133,10 @@ pub(crate) fn label_all(
 {
     clear(labels, predecessors);
     labels[source] = departure;
-    let mut first = [NO_ARC; 200];
-    let mut next = [NO_ARC; 640];
+    let mut first = [NO_ARC; MAX_JUNCTIONS];
+    let mut next = [NO_ARC; MAX_ARCS];
     link_arcs(tails, &mut first, &mut next);
-    let mut settled = [false; 200];
+    let mut settled = [false; MAX_JUNCTIONS];
     loop {
         let junction = nearest(labels, &settled);
         if junction == junctions {

@@ -3,21 +3,22 @@ use Prim.Native.Nat.{ℕ}
 use mathlib.Core.Path.{_≡_}
 use mathlib.Core.List.{List, [], _∷_}
 use mathlib.Core.Option.{Option, none, some}
-use Rattle.model.specs.Labels.{labelsOf}
-use Rattle.model.specs.Network.{Network, network, netOf}
-use Rattle.model.specs.NetworkRules.{networkCheck}
+use lib.ListN.{length}
+use Rattle.model.specs.Network.{Network, network}
 use Rattle.model.specs.Rules.{replied}
 use Rattle.reckoning.specs.ArcArrival.{arcArrival}
+use Rattle.reckoning.specs.Labels.{labelsAnswer, labelsAfter}
 
 -- A row of an arc, whose arrival is none where the arc cannot be driven; and one of a town, with its labels.
 pub data Row : Type 0 where
   arc : (metres : ℕ) (fences speeds : List ℕ) (departure : ℕ) (arrival : Option ℕ) → Row
-  town : (N : Network) (source departure : ℕ) (labels : List ℕ) → Row
+  town : (N : Network) (source departure : ℕ) (expected : List ℕ) → Row
 
--- What a row claims, from the definition of the operation.
+-- What a row claims, from the definitions of the operations; of a town, for all lent buffers of the right length.
 abbrev pub Holds : Row → Type 0
 Holds (arc metres fences speeds departure arrival) = arcArrival departure metres fences speeds ≡ replied arrival
-Holds (town N source departure labels) = (networkCheck N ≡ replied tt) × (labelsOf (netOf N) source departure ≡ labels)
+Holds (town N source departure expected) = (labels predecessors : List ℕ) → length labels ≡ N .junctions → length predecessors ≡ N .junctions →
+    (labelsAnswer N source departure labels predecessors ≡ replied tt) × (labelsAfter N source departure labels predecessors ≡ expected)
 
 infixr 5 _also_
 -- Every row of a list holds.
@@ -25,7 +26,7 @@ pub data Each : List Row → Type 0 where
   no-more : Each []
   _also_ : {row : Row} {rows : List Row} → Holds row → Each rows → Each (row ∷ rows)
 
--- The sample town: its FN and AR lines.
+-- The sample town: what its TN, FN and AR lines say.
 abbrev pub sample : Network
 sample = network 3 (0 ∷ 100 ∷ []) (0 ∷ 0 ∷ 1 ∷ []) (1 ∷ 2 ∷ 2 ∷ []) (50 ∷ 100 ∷ 50 ∷ []) (36 ∷ 18 ∷ 40 ∷ 20 ∷ 36 ∷ 36 ∷ [])
 

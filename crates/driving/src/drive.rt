@@ -1,6 +1,6 @@
 // The arrival on an arc, interval by interval: the engine under every operation that drives one.
 ghost use mathlib.Core.Path.{_≡_};
-ghost use Prim.Native.Nat.{_-_, _*_, _<_, _≤_, min};
+ghost use Prim.Native.Nat.{_-_, _*_, _^_, _<_, _≤_, min};
 ghost use lib.ListN.{length, getD};
 ghost use Rattle.model.specs.Ticks.{tick?, arrivedAt};
 ghost use Rattle.model.specs.Flow.{spansOf};
@@ -34,7 +34,7 @@ fn intervals_of(fences: &[u32], speeds: &[u8]) -> usize
     }
 }
 
-// The tick at which interval k ends, as far as it counts.
+// The tick at which interval k ends: the next fence. The last interval has no end; no tick after the last one is looked at.
 fn interval_end(fences: &[u32], k: usize) -> u32
     requires { ⌜ k < length (now fences) ⌝ }
     ensures { λ r. ⌜ r ≡ getD (endsOf (now (fences .entry))) k 0 ⌝ }
@@ -48,7 +48,7 @@ fn interval_end(fences: &[u32], k: usize) -> u32
 }
 
 // The spans that an interval covers from a tick on: none where it ends no later.
-fn room_until(end: u32, at: u32, speed: u8) -> u64
+fn covered_until(end: u32, at: u32, speed: u8) -> u64
     ensures { λ r. ⌜ r ≡ (end - at) * speed ⌝ }
 {
     if at < end {
@@ -60,7 +60,7 @@ fn room_until(end: u32, at: u32, speed: u8) -> u64
 
 // The ticks that cover the spans, rounded up; none where there are no spans or no speed.
 fn ticks_for(spans: u64, speed: u8) -> u64
-    requires { ⌜ spans ≤ 281474976710656 ⌝ }
+    requires { ⌜ spans ≤ 2 ^ 48 ⌝ }
     ensures { λ r. ⌜ r ≡ ticksFor spans speed ⌝ }
 {
     if speed == 0 {
@@ -82,7 +82,7 @@ fn arrival_at(tick: u64) -> Arrival
     }
 }
 
-// The arrival of who leaves at the departure, with an arc to drive from interval k on. In turn each interval takes what it
+// The arrival of a vehicle that leaves at the departure, which lies in the interval. In turn each interval takes what it
 // covers of the spans left; the first that covers them all gives the arrival, and after the last there is none. An interval
 // of speed 0 covers nothing: the vehicle stands until the next fence. The ticks are rounded up once, at the end of the arc.
 pub fn drive(departure: u32, interval: usize, metres: u32, fences: &[u32], speeds: &[u8]) -> Arrival
@@ -98,7 +98,7 @@ pub fn drive(departure: u32, interval: usize, metres: u32, fences: &[u32], speed
     loop {
         let speed = speeds[k];
         let end = interval_end(fences, k);
-        let room = room_until(end, at, speed);
+        let room = covered_until(end, at, speed);
         if left <= room {
             break arrival_at((at as u64) + ticks_for(left, speed));
         }

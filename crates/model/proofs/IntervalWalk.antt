@@ -12,7 +12,7 @@ use lib.Seq.{getD-drop, drop-append-le}
 use borrow.Author.Tests.{le-leb, lt-leb}
 use Rattle.model.specs.Ticks.{last}
 use Rattle.model.specs.Flow.{covered, arrival, IsArrival}
-use Rattle.model.specs.Intervals.{FencesKept, passed, interval, speedAt, ticksFor, tries, endsOf, walkFrom, intervalWalk, WalkIsArrival}
+use Rattle.model.specs.Intervals.{FencesKept, passed, interval, speedAt, ticksFor, tries, endsOf, walkFrom, intervalWalk, WalkFromIsArrival, WalkIsArrival}
 use Rattle.model.proofs.Tests.{leb-cases}
 use Rattle.model.proofs.Covered.{covered-add, covered-more, covered-steady}
 use Rattle.model.proofs.Arrival.{arrival-is-least}
@@ -134,12 +134,15 @@ module _ (fences speeds : List ℕ) (s k : ℕ) (kept : FencesKept fences) (as-m
   ends-from : drop k (endsOf fences) ≡ drop (suc k) fences ++ (last ∷ [])
   ends-from = drop-ends fences k (omega (arith, passed-at-most fences s))
 
-  pub walk-from : (spans : ℕ) → 0 < spans → walkFrom fences speeds k s spans ≡ arrival (speedAt fences speeds) spans s
+  walk-on : (spans : ℕ) → 0 < spans → walkFrom fences speeds k s spans ≡ arrival (speedAt fences speeds) spans s
   unfolding walkFrom
-  walk-from spans some =
+  walk-on spans some =
       rw ends-from
       (arrival-is-least (speedAt fences speeds) spans s (tries (drop (suc k) fences ++ (last ∷ [])) (drop k speeds) s spans) .1
       (walk-is (drop (suc k) fences) (drop k speeds) (speedAt fences speeds) s spans (omega (arith, length-drop k speeds, length-drop (suc k) fences, passed-at-most fences s)) later-fences speed-later some))
+
+pub walk-from : WalkFromIsArrival
+walk-from = walk-on
 
 pub walk-is-arrival : WalkIsArrival
 unfolding intervalWalk interval

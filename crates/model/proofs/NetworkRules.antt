@@ -10,8 +10,8 @@ use borrow.Author.Tests.{not-true, not-false, ltb-true, ltb-false, leb-true, eqb
 use Rattle.model.specs.Limits.{maxJunctions, maxArcs, maxLength, maxSpeed}
 use Rattle.model.specs.Network.{Network, arcs, intervals, Accepted}
 use Rattle.model.specs.NetworkRules.{junctionsKeep, tablesAgree, endsKeep, networkRules, networkCheck, AcceptsWhenKept}
-use Rattle.model.specs.Rules.{every, fencesKeep, lengthKeeps, speedKeeps}
-use Rattle.model.proofs.Rules.{AllKept, kept-replies, replies-kept, true-both, both-true, kept-count, count-kept, kept-length, length-kept, every-at, at-every, fences-kept, kept-fences}
+use Rattle.model.specs.Rules.{AllKept, every, fencesKeep, lengthKeeps, speedKeeps}
+use Rattle.model.proofs.Rules.{kept-replies, replies-kept, true-both, both-true, kept-count, count-kept, kept-length, length-kept, every-at, at-every, fences-kept, kept-fences}
 
 -- ---- The ends of the arcs
 

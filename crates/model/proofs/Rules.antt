@@ -1,7 +1,7 @@
 -- The rules' tests and their plain statements: a check replies where no test fires, and each test that runs through a table
 -- fires unless its rule holds at every entry.
 use Prim.Native.Nat.{ℕ, zero, suc, _≤_, _<_}
-use mathlib.Core.Path.{_≡_, refl, ap}
+use mathlib.Core.Path.{_≡_, refl, sym, ap, _∙_}
 use mathlib.Core.Bool.{Bool, true, false, not, _&&_, cond}
 use mathlib.Core.List.{List, [], _∷_, _++_}
 use native.Mathlib.Omega.{arith}
@@ -11,14 +11,9 @@ use borrow.Author.Tests.{not-false, ltb-true, leb-true, eqb-true, lt-ltb, le-leb
 use Rattle.model.specs.Ticks.{day}
 use Rattle.model.specs.Limits.{maxIntervals, maxLength}
 use Rattle.model.specs.Intervals.{FencesKept}
-use Rattle.model.specs.Rules.{Outcome, refused, replied, Rule, _if_, firstBroken, every, riseFrom, countKeeps, fencesKeep, lengthKeeps}
+use Rattle.model.specs.Rules.{Outcome, refused, replied, Rule, _if_, firstBroken, AllKept, RefusedExactlyWhen, every, riseFrom, countKeeps, fencesKeep, lengthKeeps}
 
 -- ---- Which rule counts
-
--- No rule of the list is broken.
-abbrev pub AllKept : List Rule → Type 0
-AllKept [] = Unit {0}
-AllKept (rule ∷ rules) = (rule .broken ≡ false) × AllKept rules
 
 pub kept-replies : {Reply : Type 0} (rules : List Rule) (reply : Reply) → AllKept rules → firstBroken rules reply ≡ replied reply
 unfolding firstBroken
@@ -49,6 +44,23 @@ unfolding firstBroken
 refused-at [] reply k kept broken = absurd (let z : _≡_ {A = ℕ} 0 1 = cc in omega arith)
 refused-at (rule ∷ rules) reply zero kept broken = rw broken
 refused-at (rule ∷ rules) reply (suc k) kept broken = rw (kept .0) (refused-at rules reply k (kept .1) broken)
+
+refused-place : {Reply : Type 0} (rules : List Rule) (reply : Reply) (number : ℕ) → firstBroken rules reply ≡ refused number →
+    (k : ℕ) × (k < length rules) × AllKept (take k rules) × ((getD rules k (0 if false)) .broken ≡ true) × ((getD rules k (0 if false)) .number ≡ number)
+unfolding firstBroken
+refused-place [] reply number e = absurd (let z : _≡_ {A = ℕ} 0 1 = cc in omega arith)
+refused-place (rule ∷ rules) reply number e = go (rule .broken) refl (refused-place rules reply number) e
+  where
+    go : (broken : Bool) → rule .broken ≡ broken →
+        (firstBroken rules reply ≡ refused number → (k : ℕ) × (k < length rules) × AllKept (take k rules) × ((getD rules k (0 if false)) .broken ≡ true) × ((getD rules k (0 if false)) .number ≡ number)) →
+        cond broken (refused (rule .number)) (firstBroken rules reply) ≡ refused number →
+        (k : ℕ) × (k < suc (length rules)) × AllKept (take k (rule ∷ rules)) × ((getD (rule ∷ rules) k (0 if false)) .broken ≡ true) × ((getD (rule ∷ rules) k (0 if false)) .number ≡ number)
+    go true b rest e = (0, omega arith, tt, b, cc)
+    go false b rest e = let r = rest e in (suc (r .0), omega (arith, r .1), (b, r .2), r .3, r .4)
+
+pub refused-exactly-when : RefusedExactlyWhen
+refused-exactly-when Reply rules reply number =
+    (refused-place rules reply number, (λ r. sym (refused-at rules reply (r .0) (r .2) (r .3)) ∙ ap refused (r .4)))
 
 -- A list of rules with more behind it: where the first list refuses, so does the whole; where it is kept, the rest decides.
 pub refused-before : {Reply Reply′ : Type 0} (rules more : List Rule) (reply : Reply) (reply′ : Reply′) (number : ℕ) → firstBroken rules reply ≡ refused number → firstBroken (rules ++ more) reply′ ≡ refused number

@@ -10,7 +10,7 @@ use native.Mathlib.Decide.{decLt, ℕ-discrete}
 use native.Mathlib.Omega.{arith}
 use lib.ListN.{length}
 use Rattle.model.specs.Ticks.{last, never}
-use Rattle.model.specs.Walks.{Net, Sound, Arrives, start, along, ArrivesWaiting, Earliest}
+use Rattle.model.specs.Walks.{Net, Sound, Arrives, start, along, ArrivesWaiting, Earliest, EarliestIsUnique}
 use Rattle.model.proofs.Distinct.{Member, Distinct, member?, distinct-length}
 
 -- ---- Arcs
@@ -146,3 +146,6 @@ module _ {N : Net} (sound : Sound N) {source departure : ℕ} where
   pub shorten : {j t : ℕ} → Arrives N source departure j t → Simple N source departure j t
   shorten start = exactly start (λ m. m, tt)
   shorten (along a is-arc w arrives) = extend a is-arc arrives (shorten w)
+
+pub earliest-is-unique : EarliestIsUnique
+earliest-is-unique N source departure f g = earliest-unique

@@ -10,7 +10,7 @@ use Rattle.model.specs.Network.{Network, Accepted, arcs, intervals, spee
 use Rattle.model.specs.Walks.{Earliest}
 use Rattle.model.specs.Labels.{labelsOf, predecessorsOf, Certified, Lowest}
 
--- The label of a junction: the least arrival there of who leaves the source at the departure.
+-- The label of a junction: the least arrival there of a vehicle that leaves the source at the departure.
 abbrev pub label : Network → ℕ → ℕ → ℕ → ℕ
 label N source departure j = getD (labelsOf (netOf N) source departure) j never
 
@@ -27,7 +27,7 @@ OnlyTablesOfNetwork = (N : Network) → Accepted N → (source departure : ℕ) 
     (Certified (netOf N) source departure labels predecessors × Lowest (netOf N) source labels predecessors)
     ↔ ((labels ≡ labelsOf (netOf N) source departure) × (predecessors ≡ predecessorsOf (netOf N) source departure))
 
--- "The arrival never becomes later when things get better." The second network has all that the first has, and every change
+-- The arrival never becomes later when things get better. The second network has all that the first has, and every change
 -- is for the better: more junctions and arcs, no arc longer, none slower in any interval. The first network's junctions and
 -- arcs keep their numbers, and the second's further ones follow them.
 pub record Improves (A B : Network) : Type 0 where

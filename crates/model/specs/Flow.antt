@@ -24,7 +24,7 @@ firstTick v spans s n (suc k) =
     let later = firstTick v spans s (suc n) k in
     cond (leb spans (covered v s n)) (s + n) later
 
--- The arrival of who leaves at s and has the spans to cover, or never.
+-- The arrival of a vehicle that leaves at s and has the spans to cover, or never.
 unfoldable pub arrival : (ℕ → ℕ) → ℕ → ℕ → ℕ
 arrival v spans s = firstTick v spans s 0 (suc last - s)
 
@@ -40,7 +40,7 @@ pub data IsArrival (v : ℕ → ℕ) (spans s : ℕ) : ℕ → Type 0 where
 abbrev pub ArrivalIsLeast : Type 0
 ArrivalIsLeast = (v : ℕ → ℕ) (spans s t : ℕ) → (t ≡ arrival v spans s) ↔ IsArrival v spans s t
 
--- Who has something to cover arrives strictly later than the departure.
+-- A vehicle that has something to cover arrives strictly later than it left.
 abbrev pub ArrivalIsLater : Type 0
 ArrivalIsLater = (v : ℕ → ℕ) (spans s : ℕ) → 0 < spans → s < never → s < arrival v spans s
 

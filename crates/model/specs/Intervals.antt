@@ -42,7 +42,7 @@ tries (end ∷ ends) (speed ∷ speeds) at left =
 tries [] speeds at left = never
 tries (end ∷ ends) [] at left = never
 
--- The tick at which each interval ends: the next fence, and for the last interval, which counts that far, the last tick.
+-- The tick at which each interval ends: the next fence. The last interval has no end, but no tick after the last one counts.
 unfoldable pub endsOf : List ℕ → List ℕ
 endsOf [] = []
 endsOf (fence ∷ fences) = fences ++ (last ∷ [])
@@ -56,6 +56,11 @@ unfoldable pub intervalWalk : List ℕ → List ℕ → ℕ → ℕ → ℕ
 intervalWalk fences speeds spans s = walkFrom fences speeds (interval fences s) s spans
 
 -- ---- What is proved of it
+
+-- From the interval of the departure on, over fences that keep the rules, the walk gives the arrival tick by tick.
+abbrev pub WalkFromIsArrival : Type 0
+WalkFromIsArrival = (fences speeds : List ℕ) (s k : ℕ) → FencesKept fences → length speeds ≡ length fences → s ≤ last → suc k ≡ passed fences s →
+    (spans : ℕ) → 0 < spans → walkFrom fences speeds k s spans ≡ arrival (speedAt fences speeds) spans s
 
 -- For every fence list that keeps the rules, the walk gives the arrival tick by tick.
 abbrev pub WalkIsArrival : Type 0

@@ -13,7 +13,7 @@ use Rattle.model.specs.Walks.{Net, Sound, Earliest}
 abbrev pub noArc : ℕ
 noArc = 65535
 
--- Arc a offers its head the arrival of who leaves its tail at the old label.
+-- Arc a offers its head the arrival of a vehicle that leaves its tail at the old label.
 unfoldable pub offer : Net → List ℕ → ℕ → List ℕ → List ℕ
 offer N old a new = set new (N .head a) (min (getD new (N .head a) never) (N .drive a (getD old (N .tail a) never)))
 

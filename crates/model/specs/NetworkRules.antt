@@ -1,4 +1,4 @@
--- "Network check. In this order, each over the whole table before the next: 1, junction count 0 or above 200; 2, no fence or
+-- "Network check (..). In this order, each over the whole table before the next: 1, junction count 0 or above 200; 2, no fence or
 -- more than 96; 3, more than 640 arcs; 4, heads or lengths not as long as tails, or speeds not arcs × intervals long; 5, a
 -- fence rule broken; 6, a tail or head not below the junction count, or tail equal to head; 7, a length out of range; 8, a
 -- speed above 200."
@@ -10,7 +10,7 @@ use mathlib.Core.Logic.{_↔_}
 use lib.Dec.{leb, ltb, eqb}
 use lib.ListN.{length}
 use Rattle.model.specs.Limits.{maxJunctions, maxArcs}
-use Rattle.model.specs.Network.{Network, arcs, intervals, Accepted}
+use Rattle.model.specs.Network.{Network, arcs, Accepted}
 use Rattle.model.specs.Rules.{Outcome, replied, Rule, _if_, firstBroken, every, countKeeps, fencesKeep, lengthKeeps, speedKeeps}
 
 abbrev pub junctionsKeep : ℕ → Bool

@@ -1,10 +1,12 @@
 -- How an operation refuses: its rules in the paper's order, each a number and a test, of which the first that is broken counts.
-use Prim.Native.Nat.{ℕ, suc}
-use mathlib.Core.Bool.{Bool, true, false, not, _&&_, _||_, cond}
+use Prim.Native.Nat.{ℕ, _<_}
+use mathlib.Core.Path.{_≡_}
+use mathlib.Core.Logic.{_↔_}
+use mathlib.Core.Bool.{Bool, true, false, _&&_, cond}
 use mathlib.Core.List.{List, [], _∷_}
 use lib.Dec.{leb, ltb, eqb}
-use lib.ListN.{length}
-use Rattle.model.specs.Ticks.{day, last}
+use lib.ListN.{length, getD, take}
+use Rattle.model.specs.Ticks.{day}
 use Rattle.model.specs.Limits.{maxIntervals, maxLength, maxSpeed}
 
 -- What an operation comes to: the refusal's number, or the reply.
@@ -23,6 +25,17 @@ number if broken = record { number = number; broken = broken }
 unfoldable pub firstBroken : {Reply : Type 0} → List Rule → Reply → Outcome Reply
 firstBroken [] reply = replied reply
 firstBroken (rule ∷ rules) reply = cond (rule .broken) (refused (rule .number)) (firstBroken rules reply)
+
+-- No rule of the list is broken.
+abbrev pub AllKept : List Rule → Type 0
+AllKept [] = Unit {0}
+AllKept (rule ∷ rules) = (rule .broken ≡ false) × AllKept rules
+
+-- An operation is refused with a number exactly where a rule with that number is broken and those before it are kept.
+abbrev pub RefusedExactlyWhen : Type 1
+RefusedExactlyWhen = (Reply : Type 0) (rules : List Rule) (reply : Reply) (number : ℕ) →
+    (firstBroken rules reply ≡ refused number)
+    ↔ ((k : ℕ) × (k < length rules) × AllKept (take k rules) × ((getD rules k (0 if false)) .broken ≡ true) × ((getD rules k (0 if false)) .number ≡ number))
 
 -- ---- The tests
 

@@ -12,7 +12,7 @@ pub record Net : Type 0 where
   pub head : ℕ → ℕ
   pub drive : ℕ → ℕ → ℕ
 
--- What the theory asks of a net: arcs join its junctions; driving one takes time, and who leaves no later arrives no later.
+-- What the theory asks of a net: arcs join its junctions; driving one takes time, and leaving no later arrives no later.
 pub record Sound (N : Net) : Type 0 where
   pub tail-below : (a : ℕ) → a < N .arcs → N .tail a < N .junctions
   pub head-below : (a : ℕ) → a < N .arcs → N .head a < N .junctions
@@ -32,9 +32,15 @@ pub data ArrivesWaiting (N : Net) (source departure : ℕ) : ℕ → ℕ → Typ
   along : (a : ℕ) {t : ℕ} (u : ℕ) → a < N .arcs → ArrivesWaiting N source departure (N .tail a) t → t ≤ u → N .drive a u ≤ last → ArrivesWaiting N source departure (N .head a) (N .drive a u)
 
 -- "A junction's label is the least arrival over all walks from the source": of every junction of the net, and all walks. Any
--- label other than never is attained, so there is one such label for each junction of the net.
+-- label other than never is attained.
 pub record Earliest (N : Net) (source departure : ℕ) (label : ℕ → ℕ) : Type 0 where
   pub attained : (j : ℕ) → j < N .junctions → (label j ≡ never → ⊥) → Arrives N source departure j (label j)
   pub no-sooner : (j t : ℕ) → Arrives N source departure j t → label j ≤ t
   pub no-sooner-waiting : (j t : ℕ) → ArrivesWaiting N source departure j t → label j ≤ t
   pub unreached : (j t : ℕ) → label j ≡ never → Arrives N source departure j t → ⊥
+
+-- ---- What is proved of it
+
+-- There is one such label for each junction of the net.
+abbrev pub EarliestIsUnique : Type 0
+EarliestIsUnique = (N : Net) (source departure : ℕ) (f g : ℕ → ℕ) → Earliest N source departure f → Earliest N source departure g → (j : ℕ) → j < N .junctions → f j ≡ g j

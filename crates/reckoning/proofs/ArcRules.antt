@@ -10,8 +10,8 @@ use borrow.Author.Tests.{not-false, leb-true, eqb-true, ltb-false, le-leb, eq-eq
 use Rattle.model.specs.Ticks.{last, tick?}
 use Rattle.model.specs.Flow.{spansOf, arrival}
 use Rattle.model.specs.Intervals.{speedAt}
-use Rattle.model.specs.Rules.{replied, every, fencesKeep, lengthKeeps, speedKeeps}
-use Rattle.model.proofs.Rules.{AllKept, kept-replies, replies-kept, kept-count, count-kept, kept-length, length-kept, every-at, at-every, fences-kept, kept-fences}
+use Rattle.model.specs.Rules.{AllKept, replied, every, fencesKeep, lengthKeeps, speedKeeps}
+use Rattle.model.proofs.Rules.{kept-replies, replies-kept, kept-count, count-kept, kept-length, length-kept, every-at, at-every, fences-kept, kept-fences}
 use Rattle.reckoning.specs.ArcArrival.{arcRules, arcArrival, ArcAccepted, ArcRepliesWhenAccepted}
 
 module _ (departure metres : ℕ) (fences speeds : List ℕ) where

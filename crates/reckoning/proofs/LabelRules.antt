@@ -11,10 +11,10 @@ use Rattle.model.specs.Ticks.{day, never}
 use Rattle.model.specs.Network.{Network, netOf}
 use Rattle.model.specs.NetworkRules.{networkRules, networkCheck}
 use Rattle.model.specs.Labels.{labelsOf, predecessorsOf}
-use Rattle.model.specs.Rules.{Outcome, refused, replied, _if_, firstBroken}
-use Rattle.model.proofs.Demands.{demand-2, demand-3}
+use Rattle.model.specs.Rules.{AllKept, Outcome, refused, replied, _if_, firstBroken}
+use Rattle.model.proofs.Demands.{demand-2, demand-3, only-tables-of-network}
 use Rattle.model.proofs.NetworkRules.{kept-accepted, accepted-kept}
-use Rattle.model.proofs.Rules.{AllKept, kept-replies, replies-kept, kept-next, refused-at, refused-before, kept-before, kept-append, both-true, true-both}
+use Rattle.model.proofs.Rules.{kept-replies, replies-kept, kept-next, refused-at, refused-before, kept-before, kept-append, both-true, true-both}
 use Rattle.reckoning.specs.Labelling.{Labelable}
 use Rattle.reckoning.specs.Labels.{questionRules, labelsAnswer, labelsAfter, predecessorsAfter, LabelsRepliesWhenLabelable, Demand2OfCall, Demand3OfCalls}
 
@@ -87,7 +87,8 @@ labels-replies-when-labelable N source departure labels predecessors =
 pub demand-2-of-call : Demand2OfCall
 demand-2-of-call N source departure labels predecessors e =
     let q = answered N source departure labels predecessors e in
-    rw e (demand-2 N (q .accepted) source departure (q .source-below) (q .departure-below))
+    let tables = only-tables-of-network N (q .accepted) source departure (q .source-below) (q .departure-below) (labelsOf (netOf N) source departure) (predecessorsOf (netOf N) source departure) .1 (refl, refl) in
+    rw e (demand-2 N (q .accepted) source departure (q .source-below) (q .departure-below), tables .0, tables .1)
 
 pub demand-3-of-calls : Demand3OfCalls
 demand-3-of-calls A B better source early late earlier labels predecessors labels′ predecessors′ a b j h =

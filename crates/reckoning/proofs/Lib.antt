@@ -1,5 +1,5 @@
+pub mod ArcKept
 pub mod ArcRules
-pub mod Drivable
 pub mod EndsScan
 pub mod Filled
 pub mod Flags

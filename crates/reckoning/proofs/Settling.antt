@@ -15,6 +15,7 @@ use Rattle.model.specs.Walks.{Net, Sound}
 use Rattle.model.specs.Labels.{noArc, labelsOf, predecessorsOf, Attains, Certified, Lowest}
 use Rattle.model.proofs.Walks.{drive-by-last, drive-never}
 use Rattle.model.proofs.OnlyTables.{only-tables}
+use Rattle.reckoning.proofs.Flags.{true-not-false}
 
 -- The settled junctions have labels up to the tick t, and the others from it on. D are the arcs that have offered: their tails are
 -- settled, as are those of the predecessors. None of them would lower a label, and none that attains one is numbered below the
@@ -38,9 +39,6 @@ pub record Settling (N : Net) (source departure t : ℕ) (settled : List Bool) (
 
 -- ---- Flags and labels
 
-not-both : {flag : Bool} → flag ≡ true → flag ≡ false → ⊥
-not-both on off = let z : _≡_ {A = ℕ} 0 1 = cc in omega arith
-
 by-flag : (flags : List Bool) (k : ℕ) {A : Type 0} → (getD flags k false ≡ true → A) → (getD flags k false ≡ false → A) → A
 by-flag flags k {A} on off = go (getD flags k false) refl
   where
@@ -51,7 +49,7 @@ by-flag flags k {A} on off = go (getD flags k false) refl
 -- A new label for a junction that is not settled leaves the settled ones' as they are.
 pub settled-label-stays : (settled : List Bool) (labels : List ℕ) (h k label : ℕ) → getD settled h false ≡ false → getD settled k false ≡ true →
     getD (set labels h label) k never ≡ getD labels k never
-settled-label-stays settled labels h k label waits done = getD-set-other labels h k label never (λ e. not-both done (rw e waits))
+settled-label-stays settled labels h k label waits done = getD-set-other labels h k label never (λ e. true-not-false done (rw e waits))
 
 -- Whether an arc attains a junction's label is said by the labels at its two ends.
 attains-alike : {N : Net} {labels labels′ : List ℕ} {j a : ℕ} → getD labels′ (N .tail a) never ≡ getD labels (N .tail a) never →
@@ -78,7 +76,7 @@ settling-starts {N} {source} {departure} {settled} {D} inside departs are-first 
   in-time = departs;
   source-label = at-source;
   source-predecessor = getD-replicate (N .junctions) source noArc noArc inside;
-  behind = λ k is-junction done. absurd (not-both done (none-settled k));
+  behind = λ k is-junction done. absurd (true-not-false done (none-settled k));
   ahead = λ k is-junction waits. no-sooner k is-junction (ℕ-discrete k source);
   others = λ j is-junction other. inl (elsewhere j is-junction other, getD-replicate (N .junctions) j noArc noArc is-junction);
   driven = λ b is-arc offered. absurd (none-offered b is-arc offered);
@@ -99,7 +97,7 @@ settling-starts {N} {source} {departure} {settled} {D} inside departs are-first 
     no-sooner k is-junction (no other) = rw (elsewhere k is-junction other) (omega arith)
 
     none-offered : (b : ℕ) → b < N .arcs → D b → ⊥
-    none-offered b is-arc offered = not-both (tails-settled b is-arc offered) (none-settled (N .tail b))
+    none-offered b is-arc offered = true-not-false (tails-settled b is-arc offered) (none-settled (N .tail b))
 
 module _ {N : Net} {source departure t : ℕ} {settled : List Bool} {D : ℕ → Type 0} {labels predecessors : List ℕ}
     (s : Settling N source departure t settled D labels predecessors) where
@@ -156,7 +154,7 @@ module _ {N : Net} {source departure t : ℕ} {settled : List Bool} {D : ℕ →
       source-label = s .source-label;
       source-predecessor = s .source-predecessor;
       behind = λ k inside done. settled-behind k inside done (ℕ-discrete k j);
-      ahead = λ k inside waits. nearest k inside (sym (as-before k (λ e. not-both now-settled (rw e at waits))) ∙ waits);
+      ahead = λ k inside waits. nearest k inside (sym (as-before k (λ e. true-not-false now-settled (rw e at waits))) ∙ waits);
       others = λ i inside other. ⊎-elim inl (λ at. inr (at .0, still-settled (N .tail (getD predecessors i noArc)) (at .1))) (s .others i inside other);
       driven = λ b is-arc offered. let (done, no-lower) = s .driven b is-arc offered in (still-settled (N .tail b) done, no-lower);
       lowest = s .lowest;
@@ -172,7 +170,7 @@ module _ {N : Net} {source departure t : ℕ} {settled : List Bool} {D : ℕ →
         as-before k other = getD-set-other settled j k true false other
 
         still-settled : (k : ℕ) → getD settled k false ≡ true → getD (set settled j true) k false ≡ true
-        still-settled k done = as-before k (λ e. not-both done (rw e unsettled)) ∙ done
+        still-settled k done = as-before k (λ e. true-not-false done (rw e unsettled)) ∙ done
 
         settled-behind : (k : ℕ) → k < N .junctions → getD (set settled j true) k false ≡ true → Dec (k ≡ j) → getD labels k never ≤ getD labels j never
         settled-behind k inside done (yes e) = rw e (omega arith)

@@ -18,7 +18,7 @@ use Rattle.model.specs.Network.{Network, Accepted, arcs, intervals, driveOf, ne
 use Rattle.model.specs.Labels.{noArc, labelsOf, predecessorsOf}
 use Rattle.model.proofs.Networks.{accepted-sound}
 use Rattle.model.proofs.Tests.{ltb-cases, eqb-cases}
-use Rattle.reckoning.specs.Drive.{Drivable}
+use Rattle.reckoning.specs.ArcKept.{ArcKept}
 use Rattle.reckoning.specs.Labelling.{arcFrom, Linked, Nearest, arcSpeeds, arrivalOn, lowered, taken, Offerable, Labelable}
 use Rattle.reckoning.proofs.Flags.{true-not-false}
 use Rattle.reckoning.proofs.Linking.{arc-from, arc-from-least}
@@ -42,19 +42,17 @@ getD-all (suc n) x (suc k) = getD-all n x k
 arc-inside : (a n m : ℕ) → a < m → a * n + n ≤ m * n
 arc-inside a n m h = omega (arith, mul-le-mul-right n h, suc-mul a n)
 
-arc-drivable : (N : Network) → Accepted N → (tick interval a : ℕ) → tick ≤ last → suc interval ≡ passed (N .fences) tick → a < arcs N →
-    Drivable tick interval (getD (N .lengths) a 0) (N .fences) (arcSpeeds (N .fences) (N .speeds) a)
-arc-drivable N accepted tick interval a in-time in-interval is-arc =
+arc-kept : (N : Network) → Accepted N → (tick interval a : ℕ) → tick ≤ last → suc interval ≡ passed (N .fences) tick → a < arcs N →
+    ArcKept tick interval (getD (N .lengths) a 0) (N .fences) (arcSpeeds (N .fences) (N .speeds) a)
+arc-kept N accepted tick interval a in-time in-interval is-arc =
     let inside = arc-inside a (intervals N) (arcs N) is-arc in
     let as-many : length (arcSpeeds (N .fences) (N .speeds) a) ≡ intervals N = simp (length-take, length-drop) (omega (arith, accepted .speeds-long)) in
     record {
       in-time = in-time;
       in-interval = in-interval;
       some-length = accepted .some-length a is-arc;
-      length-fits = accepted .length-fits a is-arc;
       fences-kept = accepted .fences-kept;
       as-many = as-many;
-      speed-fits = λ k h. rw (getD-take (intervals N) (drop (a * intervals N) (N .speeds)) k 0 (omega arith), getD-drop) (accepted .speed-fits (a * intervals N + k) (omega arith));
     }
 
 -- ---- What is left to settle
@@ -246,7 +244,7 @@ module _ {N : Network} {source departure : ℕ} {labels₀ predecessors₀ : Lis
       has-speeds = omega (arith, arc-inside a (intervals N) (arcs N) (arc-at .0), q .accepted .speeds-long);
       has-label = omega (arith, q .accepted .head-below a (arc-at .0), t .settling .labels-long);
       has-predecessor = omega (arith, q .accepted .head-below a (arc-at .0), t .settling .predecessors-long);
-      drivable = arc-drivable N (q .accepted) tick interval a (t .settling .in-time) (t .interval-is) (arc-at .0);
+      kept = arc-kept N (q .accepted) tick interval a (t .settling .in-time) (t .interval-is) (arc-at .0);
     }
 
     pub turn-skips : getD settled (getD (N .heads) a 0) false ≡ true → Turn N source departure settled junction tick interval (getD next a 0) labels predecessors

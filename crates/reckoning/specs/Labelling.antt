@@ -12,7 +12,7 @@ use Rattle.model.specs.Flow.{spansOf, arrival}
 use Rattle.model.specs.Intervals.{speedAt}
 use Rattle.model.specs.Labels.{noArc}
 use Rattle.model.specs.Network.{Network, Accepted}
-use Rattle.reckoning.specs.Drive.{Drivable}
+use Rattle.reckoning.specs.ArcKept.{ArcKept}
 
 -- ---- The arcs of a tail
 
@@ -72,7 +72,7 @@ pub record Offerable (a head tick interval : ℕ) (fences lengths speeds labels 
   pub has-speeds : a * length fences + length fences ≤ length speeds
   pub has-label : head < length labels
   pub has-predecessor : head < length predecessors
-  pub drivable : Drivable tick interval (getD lengths a 0) fences (arcSpeeds fences speeds a)
+  pub kept : ArcKept tick interval (getD lengths a 0) fences (arcSpeeds fences speeds a)
 
 -- ---- The whole
 

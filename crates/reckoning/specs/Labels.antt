@@ -9,9 +9,9 @@ use mathlib.Core.Logic.{_↔_}
 use lib.Dec.{ltb, eqb}
 use lib.ListN.{length, getD}
 use Rattle.model.specs.Ticks.{day, never}
-use Rattle.model.specs.Network.{Network, Accepted, netOf}
+use Rattle.model.specs.Network.{Network, netOf}
 use Rattle.model.specs.NetworkRules.{networkRules}
-use Rattle.model.specs.Labels.{labelsOf, predecessorsOf}
+use Rattle.model.specs.Labels.{labelsOf, predecessorsOf, Certified, Lowest}
 use Rattle.model.specs.Walks.{Earliest}
 use Rattle.model.specs.Demands.{Improves}
 use Rattle.model.specs.Refusals.{numberOf}
@@ -54,10 +54,13 @@ abbrev pub LabelsRepliesWhenLabelable : Type 0
 LabelsRepliesWhenLabelable = (N : Network) (source departure : ℕ) (labels predecessors : List ℕ) →
     (labelsAnswer N source departure labels predecessors ≡ replied tt) ↔ Labelable N source departure labels predecessors
 
--- Demand 2 of the buffer that a call which replies leaves.
+-- Demand 2 of the buffers that a call which replies leaves: the labels are the earliest arrivals over all walks, and the two
+-- tables satisfy the conditions that no other tables do.
 abbrev pub Demand2OfCall : Type 0
 Demand2OfCall = (N : Network) (source departure : ℕ) (labels predecessors : List ℕ) → labelsAnswer N source departure labels predecessors ≡ replied tt →
     Earliest (netOf N) source departure (λ j. getD (labelsAfter N source departure labels predecessors) j never)
+    × Certified (netOf N) source departure (labelsAfter N source departure labels predecessors) (predecessorsAfter N source departure labels predecessors)
+    × Lowest (netOf N) source (labelsAfter N source departure labels predecessors) (predecessorsAfter N source departure labels predecessors)
 
 -- Demand 3 of the buffers that two calls which reply leave, the second on a better network and no later.
 abbrev pub Demand3OfCalls : Type 0

@@ -1,5 +1,5 @@
 pub mod ArcArrival
-pub mod Drive
+pub mod ArcKept
 pub mod Labelling
 pub mod Labels
 pub mod NetworkCheck

@@ -149,7 +149,7 @@ pub(crate) fn label_all(
         while a != NO_ARC {
             let arc = a as usize;
             let head = heads[arc] as usize;
-            // A settled junction is no later than the tick, so no arc from here reaches it sooner.
+            // A settled junction's label is no later than the tick, and driving takes time: an arc to it arrives later.
             if !settled[head] {
                 offer(
                     a,

@@ -52,13 +52,13 @@ loop-less : tie.Need-loop-less Inv-loop μ-loop
 loop-less c = omega (arith, c .before .before .before .before .before .loop .inv .inside, c .before .before .before .before .before .before .before .intervals-of .ensures)
 
 loop-again : tie.Need-loop-again Inv-loop μ-loop
-loop-again c = walks-on (c .before .before .before .before .before .loop .inv) (c .before .before .before .interval-end .ensures) (c .before .before .room-until .ensures) (c .before .before .before .before .before .before .before .intervals-of .ensures) (c .before .if2 .left) (c .if3 .left) (record { fits = c .before .before .before .interval-end .ok })
+loop-again c = walks-on (c .before .before .before .before .before .loop .inv) (c .before .before .before .interval-end .ensures) (c .before .before .covered-until .ensures) (c .before .before .before .before .before .before .before .intervals-of .ensures) (c .before .if2 .left) (c .if3 .left) (record { fits = c .before .before .before .interval-end .ok })
 
 returns-2 : tie.Need-returns-2 Inv-loop μ-loop
-returns-2 c = c .arrival-at .ensures ∙ ap tick? (ap (λ n. c .before .before .before .before .before .before .loop .at + n) (c .before .ticks-for .ensures) ∙ covered-here (c .before .before .before .before .before .before .loop .inv) (c .before .before .before .before .interval-end .ensures) (c .before .before .before .room-until .ensures) (c .before .before .if2 .taken))
+returns-2 c = c .arrival-at .ensures ∙ ap tick? (ap (λ n. c .before .before .before .before .before .before .loop .at + n) (c .before .ticks-for .ensures) ∙ covered-here (c .before .before .before .before .before .before .loop .inv) (c .before .before .before .before .interval-end .ensures) (c .before .before .before .covered-until .ensures) (c .before .before .if2 .taken))
 
 returns-3 : tie.Need-returns-3 Inv-loop μ-loop
-returns-3 c = ap tick? (never-arrives (c .before .before .before .before .before .loop .inv) (c .before .before .before .interval-end .ensures) (c .before .before .room-until .ensures) (c .before .before .before .before .before .before .before .intervals-of .ensures) (c .before .if2 .left) (c .if3 .taken))
+returns-3 c = ap tick? (never-arrives (c .before .before .before .before .before .loop .inv) (c .before .before .before .interval-end .ensures) (c .before .before .covered-until .ensures) (c .before .before .before .before .before .before .before .intervals-of .ensures) (c .before .if2 .left) (c .if3 .taken))
 
 pub drive-spec : {M : Type 1} → statement M
 drive-spec =

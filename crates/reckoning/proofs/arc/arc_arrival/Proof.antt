@@ -9,15 +9,15 @@ use native.Mathlib.Omega.{arith}
 use lib.ListN.{take}
 use denote.Ref.{now}
 use borrow.Author.Tests.{eq-eqb, ne-eqb, le-ltb, lt-ltb}
-use Rattle.model.specs.Rules.{Rule, replied}
+use Rattle.model.specs.Rules.{AllKept, Rule, replied}
 use Rattle.model.specs.Ticks.{tick?, arrivedAt}
 use Rattle.model.specs.Intervals.{passed}
-use Rattle.model.proofs.Rules.{AllKept, kept-next, refused-at}
+use Rattle.model.proofs.Rules.{kept-next, refused-at}
 use Rattle.model.proofs.IntervalWalk.{some-passed}
 use Rattle.reckoning.specs.ArcArrival.{arcRules, arcArrival, ArcAccepted}
-use Rattle.reckoning.specs.Drive.{Drivable}
+use Rattle.reckoning.specs.ArcKept.{ArcKept}
 use Rattle.reckoning.proofs.ArcRules.{kept-accepted, replies}
-use Rattle.reckoning.proofs.Drivable.{walk-is-drivable-arrival}
+use Rattle.reckoning.proofs.ArcKept.{walk-is-arc-arrival}
 use Rattle.reckoning.proofs.Flags.{as-test}
 use Rattle.reckoning.proofs.arc.arc_arrival.Statement.{statement}
 use Rattle.reckoning.proofs.arc.arc_arrival.Tie as tie
@@ -67,21 +67,19 @@ accepted c = kept-accepted _ _ _ _ (kept₆ c)
 reached : (c : tie.Else6) → 0 < passed (now (start₆ c .args .fences)) (start₆ c .args .departure .number)
 reached c = some-passed _ _ (accepted c .fences-kept) (accepted c .some-interval)
 
-drivable : (c : tie.After-fences-passed) → Drivable (start₆ (c .before) .args .departure .number) (c .fences-passed .result - 1) (start₆ (c .before) .args .metres) (now (start₆ (c .before) .args .fences)) (now (start₆ (c .before) .args .speeds))
-drivable c = let a = accepted (c .before) in
+arc-kept : (c : tie.After-fences-passed) → ArcKept (start₆ (c .before) .args .departure .number) (c .fences-passed .result - 1) (start₆ (c .before) .args .metres) (now (start₆ (c .before) .args .fences)) (now (start₆ (c .before) .args .speeds))
+arc-kept c = let a = accepted (c .before) in
     record {
       in-time = a .in-time;
       in-interval = omega (arith, c .fences-passed .ensures, reached (c .before));
       some-length = a .some-length;
-      length-fits = a .length-fits;
       fences-kept = a .fences-kept;
       as-many = a .as-many;
-      speed-fits = a .speed-fits;
     }
 
 -- the reply is what the engine gave
 replied-as : (c : tie.After-drive) → arcArrival (start₆ (c .before .before) .args .departure .number) (start₆ (c .before .before) .args .metres) (now (start₆ (c .before .before) .args .fences)) (now (start₆ (c .before .before) .args .speeds)) ≡ replied (arrivedAt (c .drive .result))
-replied-as c = replies _ _ _ _ (kept₆ (c .before .before)) ∙ ap replied (sym (c .drive .ensures ∙ ap tick? (walk-is-drivable-arrival (drivable (c .before)))))
+replied-as c = replies _ _ _ _ (kept₆ (c .before .before)) ∙ ap replied (sym (c .drive .ensures ∙ ap tick? (walk-is-arc-arrival (arc-kept (c .before)))))
 
 returns : tie.Need-returns
 unfolding arcArrival

@@ -12,7 +12,7 @@ use Rattle.model.specs.Flow.{spansOf}
 use Rattle.model.specs.Intervals.{walkFrom}
 use Rattle.model.proofs.Arrival.{arrival-by-last}
 use Rattle.reckoning.specs.Labelling.{labelOf, arrivalOn}
-use Rattle.reckoning.proofs.Drivable.{walk-is-drivable-arrival}
+use Rattle.reckoning.proofs.ArcKept.{walk-is-arc-arrival}
 use Rattle.reckoning.proofs.Offered.{label-of-tick, leaves-lower, leaves-unreached, leaves-tie, leaves-tie-kept, leaves-later}
 use Rattle.reckoning.proofs.labelling.offer.Statement.{statement}
 use Rattle.reckoning.proofs.labelling.offer.Tie as tie
@@ -25,7 +25,7 @@ arrival c = arrivalOn (now (start c .args .fences)) (now (start c .args .lengths
 
 -- the engine's walk over the arc's part of the speeds
 walked : (c : tie.After-label-of) → walkFrom (now (start c .args .fences)) (take (start c .args .a * length (now (start c .args .fences)) + length (now (start c .args .fences)) - start c .args .a * length (now (start c .args .fences))) (drop (start c .args .a * length (now (start c .args .fences))) (now (start c .args .speeds)))) (start c .args .interval) (start c .args .tick) (spansOf (getD (now (start c .args .lengths)) (start c .args .a) 0)) ≡ arrival c
-walked c = rw add-sub-cancel-left (walk-is-drivable-arrival (start c .pre .drivable))
+walked c = rw add-sub-cancel-left (walk-is-arc-arrival (start c .pre .kept))
 
 arrival-is : (c : tie.After-label-of) → c .label-of .result ≡ arrival c
 arrival-is c =

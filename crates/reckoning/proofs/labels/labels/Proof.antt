@@ -11,8 +11,8 @@ use denote.Ref.{now}
 use borrow.Author.Tests.{lt-ltb, le-ltb, eq-eqb, ne-eqb}
 use Rattle.model.specs.Network.{Network, network}
 use Rattle.model.specs.NetworkRules.{networkRules, networkCheck}
-use Rattle.model.specs.Rules.{Rule}
-use Rattle.model.proofs.Rules.{AllKept, kept-next, replies-kept}
+use Rattle.model.specs.Rules.{AllKept, Rule}
+use Rattle.model.proofs.Rules.{kept-next, replies-kept}
 use Rattle.reckoning.specs.NetworkCheck.{outcomeOf}
 use Rattle.reckoning.specs.Labels.{questionRules}
 use Rattle.reckoning.proofs.LabelRules.{network-refuses, question-refuses, replies, kept-labelable, ends-written}

@@ -8,8 +8,8 @@ use denote.Ref.{now}
 use borrow.Author.Tests.{le-ltb, lt-ltb}
 use Rattle.model.specs.Network.{Network, network}
 use Rattle.model.specs.NetworkRules.{networkRules, networkCheck}
-use Rattle.model.specs.Rules.{Rule}
-use Rattle.model.proofs.Rules.{AllKept, kept-next, refused-at, kept-replies, kept-count}
+use Rattle.model.specs.Rules.{AllKept, Rule}
+use Rattle.model.proofs.Rules.{kept-next, refused-at, kept-replies, kept-count}
 use Rattle.model.proofs.NetworkRules.{kept-tables}
 use Rattle.reckoning.proofs.Flags.{as-test}
 use Rattle.reckoning.proofs.network.network_check.Statement.{statement}

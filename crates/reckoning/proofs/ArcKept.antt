@@ -6,9 +6,9 @@ use native.Mathlib.Omega.{arith}
 use Rattle.model.specs.Flow.{spansOf, arrival}
 use Rattle.model.specs.Intervals.{speedAt, walkFrom}
 use Rattle.model.proofs.IntervalWalk.{walk-from}
-use Rattle.reckoning.specs.Drive.{Drivable}
+use Rattle.reckoning.specs.ArcKept.{ArcKept}
 
-pub walk-is-drivable-arrival : {departure interval metres : ℕ} {fences speeds : List ℕ} → Drivable departure interval metres fences speeds →
+pub walk-is-arc-arrival : {departure interval metres : ℕ} {fences speeds : List ℕ} → ArcKept departure interval metres fences speeds →
     walkFrom fences speeds interval departure (spansOf metres) ≡ arrival (speedAt fences speeds) (spansOf metres) departure
-walk-is-drivable-arrival {departure} {interval} {metres} {fences} {speeds} d =
+walk-is-arc-arrival {departure} {interval} {metres} {fences} {speeds} d =
     walk-from fences speeds departure interval (d .fences-kept) (d .as-many) (d .in-time) (d .in-interval) (spansOf metres) (omega (arith, d .some-length))

@@ -1,17 +1,14 @@
 -- A departure with its interval, and an arc that keeps the rules: on these the engine gives the arrival.
-use Prim.Native.Nat.{ℕ, suc, _≤_, _<_}
+use Prim.Native.Nat.{ℕ, suc, _≤_}
 use mathlib.Core.Path.{_≡_}
 use mathlib.Core.List.{List}
-use lib.ListN.{length, getD}
+use lib.ListN.{length}
 use Rattle.model.specs.Ticks.{last}
-use Rattle.model.specs.Limits.{maxLength, maxSpeed}
 use Rattle.model.specs.Intervals.{FencesKept, passed}
 
-pub record Drivable (departure interval metres : ℕ) (fences speeds : List ℕ) : Type 0 where
+pub record ArcKept (departure interval metres : ℕ) (fences speeds : List ℕ) : Type 0 where
   pub in-time : departure ≤ last
   pub in-interval : suc interval ≡ passed fences departure
   pub some-length : 1 ≤ metres
-  pub length-fits : metres ≤ maxLength
   pub fences-kept : FencesKept fences
   pub as-many : length speeds ≡ length fences
-  pub speed-fits : (k : ℕ) → k < length speeds → getD speeds k 0 ≤ maxSpeed

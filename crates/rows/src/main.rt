@@ -35,9 +35,12 @@ fn print_row(metres: u32, speed: u8) {
     print_arc(arc_arrival(Tick { number: 0 }, metres, &fences, &speeds));
 }
 
-fn print_label(label: u32) {
+// A label and, after a colon, the predecessor.
+fn print_label(label: u32, predecessor: u16) {
     io::write_all(STDOUT_FILENO, b" ");
     io::print_decimal(STDOUT_FILENO, label as u64);
+    io::write_all(STDOUT_FILENO, b":");
+    io::print_decimal(STDOUT_FILENO, predecessor as u64);
 }
 
 // Document 004's Table 1 network: o, a, b, c, d as 0 to 4.
@@ -121,8 +124,8 @@ fn print_table_1(departure: u32) {
         40,
         40,
     ];
-    let mut found = [0u32; 5];
-    let mut arcs = [0u16; 5];
+    let mut earliest = [0u32; 5];
+    let mut predecessors = [0u16; 5];
     io::write_all(STDOUT_FILENO, b"Table 1 from ");
     io::print_decimal(STDOUT_FILENO, departure as u64);
     io::write_all(STDOUT_FILENO, b":");
@@ -135,15 +138,15 @@ fn print_table_1(departure: u32) {
         &speeds,
         0,
         Tick { number: departure },
-        &mut found,
-        &mut arcs,
+        &mut earliest,
+        &mut predecessors,
     ) {
         Labelled::Written => {
-            print_label(found[0]);
-            print_label(found[1]);
-            print_label(found[2]);
-            print_label(found[3]);
-            print_label(found[4]);
+            print_label(earliest[0], predecessors[0]);
+            print_label(earliest[1], predecessors[1]);
+            print_label(earliest[2], predecessors[2]);
+            print_label(earliest[3], predecessors[3]);
+            print_label(earliest[4], predecessors[4]);
         }
         Labelled::Refused(refusal) => {
             io::write_all(STDOUT_FILENO, b" refused ");

@@ -27,10 +27,10 @@ unlowered-no-sooner {N} sound label first no-lower (along a {t = t} is-arc w arr
 -- ---- Arcs that attain a label
 
 module _ {N : Net} (sound : Sound N) {labels : List ℕ} {j a : ℕ} (at : Attains N labels j a) where
-  attaining-by-last : N .drive a (getD labels (N .tail a) never) ≤ last
+  pub attaining-by-last : N .drive a (getD labels (N .tail a) never) ≤ last
   attaining-by-last = drive-by-last sound a (getD labels (N .tail a) never) (at .is-arc) λ none. omega arith
 
-  attaining-sooner : getD labels (N .tail a) never < getD labels j never
+  pub attaining-sooner : getD labels (N .tail a) never < getD labels j never
   attaining-sooner = omega (arith, left-before sound a (getD labels (N .tail a) never) (at .is-arc) attaining-by-last)
 
   attaining-walk : {source departure : ℕ} → Arrives N source departure (N .tail a) (getD labels (N .tail a) never) →

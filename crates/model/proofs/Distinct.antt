@@ -1,12 +1,14 @@
 -- The pigeonhole principle: a list without repetition, all of whose members are below n, has at most n of them.
--- By induction on n: the last number, n - 1, is removed from the list, if it is a member.
+-- By induction on n: the last number, n - 1, is removed from the list, if it is a member. And lists without repetition, with
+-- one member more, and by their places.
 use Prim.Native.Nat.{ℕ, zero, suc, _≤_, _<_}
 use mathlib.Core.Path.{_≡_, refl, sym, ap, _∙_, subst}
-use mathlib.Core.Logic.{_≢_, _⊎_, inl, inr}
-use mathlib.Core.List.{List, [], _∷_}
+use mathlib.Core.Logic.{_≢_, _⊎_, inl, inr, ⊎-elim}
+use mathlib.Core.List.{List, [], _∷_, _++_}
 use native.Mathlib.Decide.{ℕ-discrete}
 use native.Mathlib.Omega.{arith}
-use lib.ListN.{length}
+use lib.ListN.{length, getD}
+use Rattle.model.specs.Routes.{AllDiffer}
 
 abbrev pub Member : ℕ → List ℕ → Type 0
 Member a [] = ⊥
@@ -70,3 +72,31 @@ distinct-length (suc n) xs below d = go (distinct-length n) (member? n xs)
         below-all a k =
             let differs : a ≢ n = λ e. missing (subst (λ (y : ℕ). Member y xs) e k) in
             omega (arith, below a k)
+
+-- ---- One member more at the end
+
+module _ (y : ℕ) where
+  pub member-snoc : (i : ℕ) (xs : List ℕ) → Member i (xs ++ (y ∷ [])) → Member i xs ⊎ (i ≡ y)
+  member-snoc i [] (inl e) = inr e
+  member-snoc i [] (inr m) = absurd m
+  member-snoc i (x ∷ xs) (inl e) = inl (inl e)
+  member-snoc i (x ∷ xs) (inr m) = ⊎-elim (λ k. inl (inr k)) (λ e. inr e) (member-snoc i xs m)
+
+  pub distinct-snoc : (xs : List ℕ) → Distinct xs → (Member y xs → ⊥) → Distinct (xs ++ (y ∷ []))
+  distinct-snoc [] d new = (λ m. m, tt)
+  distinct-snoc (x ∷ xs) d new =
+      (λ m. ⊎-elim (d .0) (λ e. new (inl (sym e))) (member-snoc x xs m), distinct-snoc xs (d .1) λ m. new (inr m))
+
+-- ---- Places
+
+pub member-at : (xs : List ℕ) (i d : ℕ) → i < length xs → Member (getD xs i d) xs
+member-at [] i d inside = absurd (omega arith)
+member-at (x ∷ xs) zero d inside = inl refl
+member-at (x ∷ xs) (suc i) d inside = inr (member-at xs i d (omega arith))
+
+-- Two places hold different numbers.
+pub distinct-differ : (xs : List ℕ) → Distinct xs → AllDiffer xs
+distinct-differ [] d i k before inside same = omega arith
+distinct-differ (x ∷ xs) d i zero before inside same = omega arith
+distinct-differ (x ∷ xs) d zero (suc k) before inside same = d .0 (rw same (member-at xs k 0 (omega arith)))
+distinct-differ (x ∷ xs) d (suc i) (suc k) before inside same = distinct-differ xs (d .1) i k (omega arith) (omega arith) same

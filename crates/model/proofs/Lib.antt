@@ -11,7 +11,9 @@ pub mod Networks
 pub mod OnlyTables
 pub mod Passed
 pub mod Predecessors
+pub mod Routes
 pub mod Rules
 pub mod Tests
+pub mod Trails
 pub mod Walks
 pub mod Within

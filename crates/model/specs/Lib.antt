@@ -6,6 +6,7 @@ pub mod Limits
 pub mod Network
 pub mod NetworkRules
 pub mod Refusals
+pub mod Routes
 pub mod Rules
 pub mod Ticks
 pub mod Walks

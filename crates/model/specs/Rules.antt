@@ -26,6 +26,11 @@ unfoldable pub firstBroken : {Reply : Type 0} → List Rule → Reply → Outcom
 firstBroken [] reply = replied reply
 firstBroken (rule ∷ rules) reply = cond (rule .broken) (refused (rule .number)) (firstBroken rules reply)
 
+-- What a lent table holds afterwards: what is written, or where the call is refused what it held before.
+abbrev pub after : {Reply : Type 0} → Outcome Reply → List ℕ → List ℕ → List ℕ
+after (refused number) written before = before
+after (replied reply) written before = written
+
 -- No rule of the list is broken.
 abbrev pub AllKept : List Rule → Type 0
 AllKept [] = Unit {0}

@@ -27,7 +27,7 @@ use Rattle.reckoning.proofs.Settling.{Settling, settling-starts, settli
 -- ---- Entries within a table
 
 -- An entry within a list does not depend on the default.
-getD-inside : {A : Type 0} (xs : List A) (i : ℕ) (d e : A) → i < length xs → getD xs i d ≡ getD xs i e
+pub getD-inside : {A : Type 0} (xs : List A) (i : ℕ) (d e : A) → i < length xs → getD xs i d ≡ getD xs i e
 getD-inside [] i d e h = absurd (omega arith)
 getD-inside (x ∷ xs) zero d e h = refl
 getD-inside (x ∷ xs) (suc i) d e h = getD-inside xs i d e (omega arith)

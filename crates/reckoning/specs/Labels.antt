@@ -15,7 +15,7 @@ use Rattle.model.specs.Labels.{labelsOf, predecessorsOf, Certified, Lowest}
 use Rattle.model.specs.Walks.{Earliest}
 use Rattle.model.specs.Demands.{Improves}
 use Rattle.model.specs.Refusals.{numberOf}
-use Rattle.model.specs.Rules.{Outcome, refused, replied, Rule, _if_, firstBroken}
+use Rattle.model.specs.Rules.{Outcome, refused, replied, Rule, _if_, firstBroken, after}
 use Rattle.reckoning.specs.Labelling.{Labelable}
 use Rattle.reckoning.specs.declared.labels.Labelled.{Labelled}
 use Rattle.reckoning.specs.declared.labels.Labelled.the-variants.{Written, Refused}
@@ -35,11 +35,6 @@ questionRules N source departure labels predecessors =
 
 unfoldable pub labelsAnswer : Network → ℕ → ℕ → List ℕ → List ℕ → Outcome (Unit {0})
 labelsAnswer N source departure labels predecessors = firstBroken (networkRules N ++ questionRules N source departure labels predecessors) tt
-
--- What a lent buffer holds afterwards: what is written, or where the call is refused what it held before.
-abbrev pub after : Outcome (Unit {0}) → List ℕ → List ℕ → List ℕ
-after (refused number) written before = before
-after (replied reply) written before = written
 
 abbrev pub labelsAfter : Network → ℕ → ℕ → List ℕ → List ℕ → List ℕ
 labelsAfter N source departure labels predecessors = after (labelsAnswer N source departure labels predecessors) (labelsOf (netOf N) source departure) labels

@@ -5,3 +5,4 @@ mod check;
 mod labelling;
 pub mod labels;
 pub mod network;
+pub mod route;

@@ -1,0 +1,139 @@
+-- Following predecessors: the arcs that are left lead on to the source. Counting adds one for each; writing puts each before
+-- those already written, so that the list ends in driving order.
+use Prim.Native.Nat.{ℕ, zero, suc, _+_, _-_, _≤_, _<_, zero-le, suc-le-suc}
+use mathlib.Core.Path.{_≡_, refl, sym, ap, subst, _∙_}
+use mathlib.Core.Bool.{Bool, true, false, cond}
+use mathlib.Core.List.{List, [], _∷_, _++_, reverse, reverseAux, append-assoc}
+use native.Mathlib.Omega.{arith}
+use lib.Dec.{eqb}
+use lib.ListN.{length, getD, set, take, drop, take-append-drop, length-set, length-append, length-drop, length-reverse}
+use lib.Seq.{take-suc, set-at, length-take-le}
+use Rattle.model.specs.Labels.{noArc}
+use Rattle.model.specs.Routes.{arcsBack}
+use Rattle.reckoning.specs.Following.{backFrom, Leads, here, back}
+use Rattle.reckoning.specs.Route.{written}
+
+-- No more arcs are found than are allowed.
+at-most : (at : Bool) (a : ℕ) (before : List ℕ) (most : ℕ) → length before ≤ most → length (cond at [] (a ∷ before)) ≤ suc most
+at-most true a before most h = zero-le
+at-most false a before most h = suc-le-suc h
+
+pub arcs-back-at-most : (tail : ℕ → ℕ) (source : ℕ) (predecessors : List ℕ) (most j : ℕ) → length (arcsBack tail source predecessors most j) ≤ most
+unfolding arcsBack
+arcs-back-at-most tail source predecessors zero j = zero-le
+arcs-back-at-most tail source predecessors (suc most) j =
+    at-most (eqb j source) (getD predecessors j noArc) (arcsBack tail source predecessors most (tail (getD predecessors j noArc))) most
+    (arcs-back-at-most tail source predecessors most (tail (getD predecessors j noArc)))
+
+-- ---- One arc back
+
+-- The junction's predecessor is in the tables, and its tail leads on.
+pub record Step (tails : List ℕ) (source : ℕ) (predecessors : List ℕ) (j : ℕ) (arcs : List ℕ) : Type 0 where
+  pub has-predecessor : j < length predecessors
+  pub has-tail : getD predecessors j 0 < length tails
+  pub rest : List ℕ
+  pub arcs-are : arcs ≡ getD predecessors j 0 ∷ rest
+  pub leads-on : Leads tails source predecessors (getD tails (getD predecessors j 0) 0) rest
+
+module _ {tails : List ℕ} {source : ℕ} {predecessors : List ℕ} where
+  step-of : {j : ℕ} {arcs : List ℕ} → Leads tails source predecessors j arcs → 0 < length arcs → Step tails source predecessors j arcs
+  step-of here some = absurd (omega arith)
+  step-of (back j {arcs} other inside is-arc rest) some = record {
+    has-predecessor = inside;
+    has-tail = is-arc;
+    rest = arcs;
+    arcs-are = refl;
+    leads-on = rest;
+  }
+
+  some-arc : {j : ℕ} {arcs : List ℕ} → Leads tails source predecessors j arcs → (j ≡ source → ⊥) → 0 < length arcs
+  some-arc here other = absurd (other refl)
+  some-arc (back j other′ inside is-arc rest) other = omega arith
+
+  no-arc : {j : ℕ} {arcs : List ℕ} → Leads tails source predecessors j arcs → j ≡ source → length arcs ≡ 0
+  no-arc here e = refl
+  no-arc (back j other inside is-arc rest) e = absurd (other e)
+
+-- ---- Counting
+
+pub record Counting (tails : List ℕ) (source : ℕ) (predecessors : List ℕ) (total j count : ℕ) : Type 0 where
+  pub left : List ℕ
+  pub leads : Leads tails source predecessors j left
+  pub adds-up : count + length left ≡ total
+
+pub counting-starts : {tails : List ℕ} {source : ℕ} {predecessors : List ℕ} {j : ℕ} {arcs : List ℕ} → Leads tails source predecessors j arcs → Counting tails source predecessors (length arcs) j 0
+counting-starts {arcs} l = record { left = arcs; leads = l; adds-up = omega arith }
+
+module _ {tails : List ℕ} {source : ℕ} {predecessors : List ℕ} {total j count : ℕ} (c : Counting tails source predecessors total j count) where
+  pub counting-step : (j ≡ source → ⊥) → Step tails source predecessors j (c .left)
+  counting-step other = step-of (c .leads) (some-arc (c .leads) other)
+
+  pub counting-more : (j ≡ source → ⊥) → count < total
+  counting-more other = omega (arith, some-arc (c .leads) other, c .adds-up)
+
+  pub counting-goes-on : (j ≡ source → ⊥) → Counting tails source predecessors total (getD tails (getD predecessors j 0) 0) (count + 1)
+  counting-goes-on other =
+      let s = counting-step other in
+      record { left = s .rest; leads = s .leads-on; adds-up = omega (arith, c .adds-up, ap length (s .arcs-are)) }
+
+  pub counting-ends : j ≡ source → count ≡ total
+  counting-ends e = omega (arith, c .adds-up, no-arc (c .leads) e)
+
+-- ---- Writing
+
+-- The arcs left and those written behind them, in driving order, are the route; the list is as it was before and behind these.
+pub record Writing (tails : List ℕ) (source : ℕ) (predecessors route before arcs : List ℕ) (count j k : ℕ) : Type 0 where
+  pub left : List ℕ
+  pub done : List ℕ
+  pub leads : Leads tails source predecessors j left
+  pub k-left : k ≡ length left
+  pub make-route : reverseAux left done ≡ route
+  pub arcs-are : arcs ≡ take k before ++ (done ++ drop count before)
+  pub k-fits : k ≤ length before
+  pub arcs-long : length arcs ≡ length before
+
+pub writing-starts : {tails : List ℕ} {source : ℕ} {predecessors : List ℕ} {j count : ℕ} {back-arcs before : List ℕ} → Leads tails source predecessors j back-arcs → count ≡ length back-arcs → count ≤ length before →
+    Writing tails source predecessors (reverse back-arcs) before before count j count
+writing-starts {count} {back-arcs} {before} l same fits = record {
+  left = back-arcs;
+  done = [];
+  leads = l;
+  k-left = same;
+  make-route = refl;
+  arcs-are = sym (take-append-drop count before);
+  k-fits = fits;
+  arcs-long = refl;
+}
+
+module _ {tails : List ℕ} {source : ℕ} {predecessors route before arcs : List ℕ} {count j k : ℕ} (w : Writing tails source predecessors route before arcs count j k) where
+  pub writing-step : 0 < k → Step tails source predecessors j (w .left)
+  writing-step some = step-of (w .leads) (omega (arith, w .k-left))
+
+  pub writing-goes-on : (p : ℕ) → suc p ≡ k → Writing tails source predecessors route before (set arcs p (getD predecessors j 0)) count (getD tails (getD predecessors j 0) 0) p
+  writing-goes-on p less =
+      let s = writing-step (omega arith) in
+      let a = getD predecessors j 0 in
+      let behind = w .done ++ drop count before in
+      let inside : p < length before = omega (arith, w .k-fits) in
+      let split : arcs ≡ take p before ++ (getD before p 0 ∷ behind) =
+      w .arcs-are ∙ rw (← less, take-suc before p 0 inside, append-assoc) in
+      record {
+        left = s .rest;
+        done = a ∷ w .done;
+        leads = s .leads-on;
+        k-left = omega (arith, w .k-left, ap length (s .arcs-are));
+        make-route = ap (λ l. reverseAux l (w .done)) (sym (s .arcs-are)) ∙ w .make-route;
+        arcs-are = rw split (set-at (take p before) (getD before p 0) behind a p (length-take-le p before (omega arith)));
+        k-fits = omega arith;
+        arcs-long = length-set arcs p a ∙ w .arcs-long;
+      }
+
+  pub writing-ends : k ≡ 0 → count ≡ length route → arcs ≡ written route before
+  writing-ends none same =
+      let nothing-left : w .left ≡ [] = empty (w .left) (omega (arith, w .k-left)) in
+      let all : w .done ≡ route = rw nothing-left at (w .make-route) in
+      rw (none, all, same) at (w .arcs-are)
+    where
+      empty : (xs : List ℕ) → length xs ≡ 0 → xs ≡ []
+      empty [] e = refl
+      empty (x ∷ xs) e = absurd (omega arith)

@@ -1,0 +1,82 @@
+-- "Route (network, source, departure, destination, lent arc list). 1 to 10; 12, destination not below the junction count; 13,
+-- destination unreached; 14, the list is shorter than the route. Otherwise the number of arcs, and at the list's start the arc
+-- numbers in driving order, found by following predecessors; later entries are unchanged. From the source to itself: 0 arcs."
+use Prim.Native.Nat.{ℕ, _<_}
+use mathlib.Core.Path.{_≡_}
+use mathlib.Core.Bool.{not}
+use mathlib.Core.List.{List, [], _∷_, _++_}
+use mathlib.Core.Logic.{_↔_}
+use lib.Dec.{ltb, eqb}
+use lib.ListN.{length, getD, take, drop}
+use Rattle.model.specs.Ticks.{day, never}
+use Rattle.model.specs.Network.{Network, Accepted, netOf}
+use Rattle.model.specs.NetworkRules.{networkRules}
+use Rattle.model.specs.Demands.{label}
+use Rattle.model.specs.Routes.{routeOf, Driven}
+use Rattle.model.specs.Refusals.{numberOf}
+use Rattle.model.specs.Rules.{Outcome, refused, replied, Rule, _if_, firstBroken, after}
+use Rattle.reckoning.specs.declared.route.Routed.{Routed}
+use Rattle.reckoning.specs.declared.route.Routed.the-variants.{Arcs, Refused}
+
+-- The answer's number and value.
+abbrev pub outcomeOf : Routed → Outcome ℕ
+outcomeOf (Arcs count) = replied count
+outcomeOf (Refused refusal) = refused (numberOf refusal)
+
+-- The rules of a question, after the network's own; and those on what is then found.
+abbrev pub askedRules : Network → ℕ → ℕ → ℕ → List Rule
+askedRules N source departure destination =
+    (9 if not (ltb source (N .junctions)))
+    ∷ (10 if not (ltb departure day))
+    ∷ (12 if not (ltb destination (N .junctions)))
+    ∷ []
+
+abbrev pub foundRules : Network → ℕ → ℕ → ℕ → List ℕ → List Rule
+foundRules N source departure destination arcs =
+    (13 if eqb (label N source departure destination) never)
+    ∷ (14 if ltb (length arcs) (length (routeOf (netOf N) source departure destination)))
+    ∷ []
+
+-- The route at the list's start, and what stood behind it.
+abbrev pub written : List ℕ → List ℕ → List ℕ
+written route arcs = route ++ drop (length route) arcs
+
+unfoldable pub routeAnswer : Network → ℕ → ℕ → ℕ → List ℕ → Outcome ℕ
+routeAnswer N source departure destination arcs =
+    firstBroken (networkRules N ++ (askedRules N source departure destination ++ foundRules N source departure destination arcs)) (length (routeOf (netOf N) source departure destination))
+
+abbrev pub arcsAfter : Network → ℕ → ℕ → ℕ → List ℕ → List ℕ
+arcsAfter N source departure destination arcs =
+    after (routeAnswer N source departure destination arcs) (written (routeOf (netOf N) source departure destination) arcs) arcs
+
+-- The same of a question that is taken: the rules on what is found alone.
+unfoldable pub foundAnswer : Network → ℕ → ℕ → ℕ → List ℕ → Outcome ℕ
+foundAnswer N source departure destination arcs = firstBroken (foundRules N source departure destination arcs) (length (routeOf (netOf N) source departure destination))
+
+abbrev pub foundAfter : Network → ℕ → ℕ → ℕ → List ℕ → List ℕ
+foundAfter N source departure destination arcs =
+    after (foundAnswer N source departure destination arcs) (written (routeOf (netOf N) source departure destination) arcs) arcs
+
+-- ---- What is proved of it
+
+-- What Route asks: an accepted network, a question that it takes, a destination that is reached, and a list long enough.
+pub record Routable (N : Network) (source departure destination : ℕ) (arcs : List ℕ) : Type 0 where
+  pub accepted : Accepted N
+  pub source-below : source < N .junctions
+  pub departure-below : departure < day
+  pub destination-below : destination < N .junctions
+  pub reached : label N source departure destination ≡ never → ⊥
+  pub long-enough : length arcs < length (routeOf (netOf N) source departure destination) → ⊥
+
+-- Route replies exactly then, and replies the number of arcs.
+abbrev pub RouteRepliesWhenRoutable : Type 0
+RouteRepliesWhenRoutable = (N : Network) (source departure destination : ℕ) (arcs : List ℕ) (count : ℕ) →
+    (routeAnswer N source departure destination arcs ≡ replied count)
+    ↔ (Routable N source departure destination arcs × (count ≡ length (routeOf (netOf N) source departure destination)))
+
+-- Demand 2 of the list that a call which replies leaves: its first entries, as many as the reply says, are driven from the
+-- source to the destination and arrive there at its label; and they are fewer than the junctions, so a list of 199 is enough.
+abbrev pub Demand2OfRouteCall : Type 0
+Demand2OfRouteCall = (N : Network) (source departure destination : ℕ) (arcs : List ℕ) (count : ℕ) → routeAnswer N source departure destination arcs ≡ replied count →
+    Driven (netOf N) source departure (take count (arcsAfter N source departure destination arcs)) destination (label N source departure destination)
+    × (count < N .junctions)

@@ -1,10 +1,14 @@
 // The reckonings of document 01 that are run and not proved, each on a line with what the operation answers.
+ghost use mathlib.Core.Path.{_≡_};
+ghost use lib.ListN.{length};
 use libc::STDOUT_FILENO;
 use model::tick::Tick;
 use reckoning::arc::ArcArrival;
 use reckoning::arc::arc_arrival;
 use reckoning::labels::Labelled;
 use reckoning::labels::labels;
+use reckoning::route::Routed;
+use reckoning::route::route;
 
 fn print_arc(answer: ArcArrival) {
     match answer {
@@ -43,7 +47,25 @@ fn print_label(label: u32, predecessor: u16) {
     io::print_decimal(STDOUT_FILENO, predecessor as u64);
 }
 
-// Document 004's Table 1 network: o, a, b, c, d as 0 to 4.
+fn print_entry(entry: u16) {
+    io::write_all(STDOUT_FILENO, b" ");
+    io::print_decimal(STDOUT_FILENO, entry as u64);
+}
+
+fn print_route(answer: Routed) {
+    match answer {
+        Routed::Arcs(count) => {
+            io::write_all(STDOUT_FILENO, b" arcs ");
+            io::print_decimal(STDOUT_FILENO, count as u64);
+        }
+        Routed::Refused(refusal) => {
+            io::write_all(STDOUT_FILENO, b" refused ");
+            io::print_decimal(STDOUT_FILENO, refusal.number() as u64);
+        }
+    }
+}
+
+// Document 004's Table 1 network: o, a, b, c, d as 0 to 4. After the labels comes the route to d, and a list of three.
 fn print_table_1(departure: u32) {
     let fences = [
         0u32,
@@ -153,6 +175,132 @@ fn print_table_1(departure: u32) {
             io::print_decimal(STDOUT_FILENO, refusal.number() as u64);
         }
     }
+    let mut arcs = [9u16; 3];
+    io::write_all(STDOUT_FILENO, b"; route:");
+    print_route(route(
+        5,
+        &fences,
+        &tails,
+        &heads,
+        &lengths,
+        &speeds,
+        0,
+        Tick { number: departure },
+        4,
+        &mut arcs,
+    ));
+    io::write_all(STDOUT_FILENO, b", list");
+    print_entry(arcs[0]);
+    print_entry(arcs[1]);
+    print_entry(arcs[2]);
+    io::write_all(STDOUT_FILENO, b"\n");
+}
+
+// The sample town at tick 10.
+fn print_sample(source: u32, destination: u32, arcs: &mut [u16]) {
+    let fences = [0u32, 100];
+    let tails = [0u16, 0, 1];
+    let heads = [1u16, 2, 2];
+    let lengths = [50u32, 100, 50];
+    let speeds = [36u8, 18, 40, 20, 36, 36];
+    io::write_all(STDOUT_FILENO, b"sample town from ");
+    io::print_decimal(STDOUT_FILENO, source as u64);
+    io::write_all(STDOUT_FILENO, b" to ");
+    io::print_decimal(STDOUT_FILENO, destination as u64);
+    io::write_all(STDOUT_FILENO, b", room ");
+    io::print_decimal(STDOUT_FILENO, arcs.len() as u64);
+    io::write_all(STDOUT_FILENO, b":");
+    print_route(route(
+        3,
+        &fences,
+        &tails,
+        &heads,
+        &lengths,
+        &speeds,
+        source,
+        Tick { number: 10 },
+        destination,
+        arcs,
+    ));
+}
+
+fn print_samples_without_room() {
+    let mut arcs = [9u16; 0];
+    print_sample(0, 0, &mut arcs);
+    io::write_all(STDOUT_FILENO, b"\n");
+    print_sample(0, 2, &mut arcs);
+    io::write_all(STDOUT_FILENO, b"\n");
+}
+
+fn print_sample_with_room(source: u32, destination: u32) {
+    let mut arcs = [9u16; 2];
+    print_sample(source, destination, &mut arcs);
+    io::write_all(STDOUT_FILENO, b", list");
+    print_entry(arcs[0]);
+    print_entry(arcs[1]);
+    io::write_all(STDOUT_FILENO, b"\n");
+}
+
+fn print_sample_with_just_room() {
+    let mut arcs = [9u16; 1];
+    print_sample(0, 2, &mut arcs);
+    io::write_all(STDOUT_FILENO, b", list");
+    print_entry(arcs[0]);
+    io::write_all(STDOUT_FILENO, b"\n");
+}
+
+// Arcs from each of 200 junctions to the next, numbered from the far end.
+fn number_from_the_end(tails: &mut [u16], heads: &mut [u16])
+    requires { ⌜ length (now tails) ≡ 199 ⌝ }
+    requires { ⌜ length (now heads) ≡ 199 ⌝ }
+{
+    let mut k = 0;
+    while k < 199 {
+        tails[198 - k] = k as u16;
+        heads[198 - k] = k as u16 + 1;
+        k += 1;
+    }
+}
+
+fn print_row_of_junctions(arcs: &mut [u16]) {
+    let fences = [0u32];
+    let mut tails = [0u16; 199];
+    let mut heads = [0u16; 199];
+    let lengths = [10u32; 199];
+    let speeds = [36u8; 199];
+    number_from_the_end(&mut tails, &mut heads);
+    io::write_all(STDOUT_FILENO, b"200 junctions in a row, room ");
+    io::print_decimal(STDOUT_FILENO, arcs.len() as u64);
+    io::write_all(STDOUT_FILENO, b":");
+    print_route(route(
+        200,
+        &fences,
+        &tails,
+        &heads,
+        &lengths,
+        &speeds,
+        0,
+        Tick { number: 0 },
+        199,
+        arcs,
+    ));
+}
+
+fn print_row_without_room() {
+    let mut arcs = [999u16; 198];
+    print_row_of_junctions(&mut arcs);
+    io::write_all(STDOUT_FILENO, b", first and last entry");
+    print_entry(arcs[0]);
+    print_entry(arcs[197]);
+    io::write_all(STDOUT_FILENO, b"\n");
+}
+
+fn print_row_with_just_room() {
+    let mut arcs = [999u16; 199];
+    print_row_of_junctions(&mut arcs);
+    io::write_all(STDOUT_FILENO, b", first and last entry");
+    print_entry(arcs[0]);
+    print_entry(arcs[198]);
     io::write_all(STDOUT_FILENO, b"\n");
 }
 
@@ -166,4 +314,11 @@ fn main() {
     print_table_1(27_000);
     print_table_1(863_999);
     print_table_1(864_000);
+    print_samples_without_room();
+    print_sample_with_just_room();
+    print_sample_with_room(0, 2);
+    print_sample_with_room(2, 0);
+    print_sample_with_room(0, 3);
+    print_row_without_room();
+    print_row_with_just_room();
 }

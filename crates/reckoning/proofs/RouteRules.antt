@@ -25,7 +25,7 @@ use Rattle.model.proofs.Trails.{Trail, here, back}
 use Rattle.model.proofs.Rules.{kept-replies, replies-kept, refused-at, refused-before, kept-before, kept-append}
 use Rattle.reckoning.specs.Following.{backFrom, Leads}
 use Rattle.reckoning.specs.Labelling.{Labelable}
-use Rattle.reckoning.specs.Route.{askedRules, foundRules, routeAnswer, arcsAfter, foundAnswer, foundAfter, written, Routable, RouteRepliesWhenRoutable, Demand2OfRouteCall}
+use Rattle.reckoning.specs.Route.{askedRules, foundRules, routeAnswer, arcsAfter, foundAnswer, foundAfter, written, Routable, RouteRepliesWhenRoutable, Demand2OfRouteCall, RoomForEveryRoute}
 use Rattle.reckoning.proofs.Turns.{getD-inside}
 
 -- ---- The way back
@@ -173,3 +173,15 @@ demand-2-of-route-call N source departure destination arcs count e =
     let r = a .0 in
     let d = demand-2-of-route N (r .accepted) source departure (r .source-below) (r .departure-below) destination (r .destination-below) (r .reached) in
     (rw (e, a .1, take-append-seam (route N source departure destination arcs) (drop (length (route N source departure destination arcs)) arcs)) (d .0), omega (arith, d .1, a .1))
+
+pub room-for-every-route : RoomForEveryRoute
+room-for-every-route N source departure destination arcs accepted source-below departure-below destination-below reached room =
+    let d = demand-2-of-route N accepted source departure source-below departure-below destination destination-below reached in
+    replies N source departure destination arcs (record {
+      accepted = accepted;
+      source-below = source-below;
+      departure-below = departure-below;
+      destination-below = destination-below;
+      reached = reached;
+      long-enough = λ h. omega (arith, d .1, accepted .junctions-fit);
+    })

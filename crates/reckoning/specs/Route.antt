@@ -1,7 +1,7 @@
 -- "Route (network, source, departure, destination, lent arc list). 1 to 10; 12, destination not below the junction count; 13,
 -- destination unreached; 14, the list is shorter than the route. Otherwise the number of arcs, and at the list's start the arc
 -- numbers in driving order, found by following predecessors; later entries are unchanged. From the source to itself: 0 arcs."
-use Prim.Native.Nat.{ℕ, _<_}
+use Prim.Native.Nat.{ℕ, _≤_, _<_}
 use mathlib.Core.Path.{_≡_}
 use mathlib.Core.Bool.{not}
 use mathlib.Core.List.{List, [], _∷_, _++_}
@@ -75,8 +75,14 @@ RouteRepliesWhenRoutable = (N : Network) (source departure destination : ℕ) (a
     ↔ (Routable N source departure destination arcs × (count ≡ length (routeOf (netOf N) source departure destination)))
 
 -- Demand 2 of the list that a call which replies leaves: its first entries, as many as the reply says, are driven from the
--- source to the destination and arrive there at its label; and they are fewer than the junctions, so a list of 199 is enough.
+-- source to the destination and arrive there at its label; and they are fewer than the junctions.
 abbrev pub Demand2OfRouteCall : Type 0
 Demand2OfRouteCall = (N : Network) (source departure destination : ℕ) (arcs : List ℕ) (count : ℕ) → routeAnswer N source departure destination arcs ≡ replied count →
     Driven (netOf N) source departure (take count (arcsAfter N source departure destination arcs)) destination (label N source departure destination)
     × (count < N .junctions)
+
+-- A list of 199 is never too short: with it Route replies for every destination that is reached.
+abbrev pub RoomForEveryRoute : Type 0
+RoomForEveryRoute = (N : Network) (source departure destination : ℕ) (arcs : List ℕ) → Accepted N → source < N .junctions → departure < day → destination < N .junctions →
+    (label N source departure destination ≡ never → ⊥) → 199 ≤ length arcs →
+    routeAnswer N source departure destination arcs ≡ replied (length (routeOf (netOf N) source departure destination))

@@ -7,7 +7,7 @@ use mathlib.Core.List.{List, [], _∷_, _++_, reverse}
 use native.Mathlib.Nat.{lt-of-not-le}
 use native.Mathlib.Omega.{arith}
 use lib.Dec.{ltb, eqb}
-use lib.ListN.{length, getD, take, drop, length-reverse}
+use lib.ListN.{length, getD, take, drop}
 use lib.Seq.{take-append-seam}
 use borrow.Author.Tests.{not-false, ltb-true, ltb-false, eqb-false, lt-ltb, le-ltb, ne-eqb}
 use Rattle.model.specs.Ticks.{day, last, never}
@@ -48,9 +48,6 @@ module _ (N : Network) (accepted : Accepted N) (source departure : ℕ) (source-
 
   pub route-is : reverse (backFrom (N .tails) source predecessors destination) ≡ routeOf (netOf N) source departure destination
   route-is = ap reverse back-is ∙ sym (route-reverses (netOf N) source departure destination)
-
-  pub count-is : length (backFrom (N .tails) source predecessors destination) ≡ length (routeOf (netOf N) source departure destination)
-  count-is = sym (length-reverse (backFrom (N .tails) source predecessors destination)) ∙ ap length route-is
 
   -- The destination's label, as it stands in the table that was written.
   pub label-read : {labels : List ℕ} → labels ≡ labelsOf (netOf N) source departure → destination < N .junctions → label N source departure destination ≡ getD labels destination 0

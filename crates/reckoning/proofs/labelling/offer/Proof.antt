@@ -38,19 +38,23 @@ reached : (c : tie.Else2) → c .before .before .before .label-of .result < neve
 reached c = omega (arith, c .before .before .before .label-of .ok, c .if2 .left)
 
 returns : tie.Need-returns
-returns c = leaves-lower (now (start (c .before .before) .args .labels)) (now (start (c .before .before) .args .predecessors)) (start (c .before .before) .args .head) (start (c .before .before) .args .a) (arrival-is (c .before .before)) (c .if1 .taken)
+returns c =
+    let s = start (c .before .before) in
+    leaves-lower (now (s .args .labels)) (now (s .args .predecessors)) (s .args .head) (s .args .a) (arrival-is (c .before .before)) (c .if1 .taken)
 
 returns-2 : tie.Need-returns-2
-returns-2 c = leaves-unreached (now (start (c .before .before .before) .args .labels)) (now (start (c .before .before .before) .args .predecessors)) (start (c .before .before .before) .args .head) (start (c .before .before .before) .args .a) (arrival-is (c .before .before .before)) (c .before .if1 .left) (c .if2 .taken)
+returns-2 c = leaves-unreached _ _ _ _ (arrival-is (c .before .before .before)) (c .before .if1 .left) (c .if2 .taken)
 
 returns-3 : tie.Need-returns-3
-returns-3 c = leaves-tie (now (start (c .before .before .before .before .before .before) .args .labels)) (now (start (c .before .before .before .before .before .before) .args .predecessors)) (start (c .before .before .before .before .before .before) .args .head) (start (c .before .before .before .before .before .before) .args .a) (arrival-is (c .before .before .before .before .before .before)) (c .before .before .before .before .if1 .left) (reached (c .before .before .before)) (c .before .before .if3 .taken) (c .if4 .taken)
+returns-3 c =
+    let s = start (c .before .before .before .before .before .before) in
+    leaves-tie (now (s .args .labels)) (now (s .args .predecessors)) (s .args .head) (s .args .a) (arrival-is (c .before .before .before .before .before .before)) (c .before .before .before .before .if1 .left) (reached (c .before .before .before)) (c .before .before .if3 .taken) (c .if4 .taken)
 
 returns-4 : tie.Need-returns-4
-returns-4 c = leaves-tie-kept (now (start (c .before .before .before .before .before .before) .args .labels)) (now (start (c .before .before .before .before .before .before) .args .predecessors)) (start (c .before .before .before .before .before .before) .args .head) (start (c .before .before .before .before .before .before) .args .a) (arrival-is (c .before .before .before .before .before .before)) (c .before .before .before .before .if1 .left) (reached (c .before .before .before)) (c .before .before .if3 .taken) (c .if4 .left)
+returns-4 c = leaves-tie-kept _ _ _ _ (arrival-is (c .before .before .before .before .before .before)) (c .before .before .before .before .if1 .left) (reached (c .before .before .before)) (c .before .before .if3 .taken) (c .if4 .left)
 
 returns-5 : tie.Need-returns-5
-returns-5 c = leaves-later (now (start (c .before .before .before .before) .args .labels)) (now (start (c .before .before .before .before) .args .predecessors)) (start (c .before .before .before .before) .args .head) (start (c .before .before .before .before) .args .a) (arrival-is (c .before .before .before .before)) (c .before .before .if1 .left) (reached (c .before)) (c .if3 .left)
+returns-5 c = leaves-later _ _ _ _ (arrival-is (c .before .before .before .before)) (c .before .before .if1 .left) (reached (c .before)) (c .if3 .left)
 
 pub offer-spec : {M : Type 1} → statement M
 offer-spec =

@@ -55,29 +55,29 @@ both-long l p n e f = rw (eq-eqb l n e, eq-eqb p n f)
 kept₃ : (c : tie.Else4) → AllKept (rules (start₁ (c .before .before .before .before)))
 kept₃ c = kept-next (rules (start₁ (c .before .before .before .before))) 2 (kept₂ (c .before .before)) (both-long _ _ _ (c .before .if3 .left) (c .if4 .left))
 
-abbrev last : tie.After-slice-known4 → tie.Start
-last c = start₁ (c .before .before .before .before .before .before .before .before .before .before .before)
-
 returns : tie.Need-returns
-returns c = network-refuses (N (start (c .before .before .before))) ((start (c .before .before .before)) .args .source) ((start (c .before .before .before)) .args .departure .number) (now ((start (c .before .before .before)) .args .labels)) (now ((start (c .before .before .before)) .args .predecessors)) _ (sym (ap outcomeOf (c .before .refusal .given .1)) ∙ c .before .before .before .network-check .ensures)
+returns c = network-refuses _ _ _ _ _ _ (sym (ap outcomeOf (c .before .refusal .given .1)) ∙ c .before .before .before .network-check .ensures)
 
 returns-2 : tie.Need-returns-2
-returns-2 c = question-refuses (N (start₁ (c .before))) ((start₁ (c .before)) .args .source) ((start₁ (c .before)) .args .departure .number) (now ((start₁ (c .before)) .args .labels)) (now ((start₁ (c .before)) .args .predecessors)) (accepted (c .before)) 0 tt (ap not (le-ltb _ _ (c .if1 .taken)))
+returns-2 c = question-refuses _ _ _ _ _ (accepted (c .before)) 0 tt (ap not (le-ltb _ _ (c .if1 .taken)))
 
 returns-3 : tie.Need-returns-3
-returns-3 c = question-refuses (N (start₁ (c .before .before))) ((start₁ (c .before .before)) .args .source) ((start₁ (c .before .before)) .args .departure .number) (now ((start₁ (c .before .before)) .args .labels)) (now ((start₁ (c .before .before)) .args .predecessors)) (accepted (c .before .before)) 1 (kept₁ (c .before)) (ap not (le-ltb _ _ (c .if2 .taken)))
+returns-3 c = question-refuses _ _ _ _ _ (accepted (c .before .before)) 1 (kept₁ (c .before)) (ap not (le-ltb _ _ (c .if2 .taken)))
 
 returns-4 : tie.Need-returns-4
-returns-4 c = question-refuses (N (start₁ (c .before .before .before))) ((start₁ (c .before .before .before)) .args .source) ((start₁ (c .before .before .before)) .args .departure .number) (now ((start₁ (c .before .before .before)) .args .labels)) (now ((start₁ (c .before .before .before)) .args .predecessors)) (accepted (c .before .before .before)) 2 (kept₂ (c .before)) (short-labels _ _ _ (c .if3 .taken))
+returns-4 c = question-refuses _ _ _ _ _ (accepted (c .before .before .before)) 2 (kept₂ (c .before)) (short-labels _ _ _ (c .if3 .taken))
 
 returns-5 : tie.Need-returns-5
-returns-5 c = question-refuses (N (start₁ (c .before .before .before .before))) ((start₁ (c .before .before .before .before)) .args .source) ((start₁ (c .before .before .before .before)) .args .departure .number) (now ((start₁ (c .before .before .before .before)) .args .labels)) (now ((start₁ (c .before .before .before .before)) .args .predecessors)) (accepted (c .before .before .before .before)) 2 (kept₂ (c .before .before)) (short-predecessors _ _ _ (c .before .if3 .left) (c .if4 .taken))
+returns-5 c = question-refuses _ _ _ _ _ (accepted (c .before .before .before .before)) 2 (kept₂ (c .before .before)) (short-predecessors _ _ _ (c .before .if3 .left) (c .if4 .taken))
 
 label-all-requires : tie.Need-label-all-requires
-label-all-requires c κs = kept-labelable (N (start₁ (c .before .before .before .before .before .before))) ((start₁ (c .before .before .before .before .before .before)) .args .source) ((start₁ (c .before .before .before .before .before .before)) .args .departure .number) (now ((start₁ (c .before .before .before .before .before .before)) .args .labels)) (now ((start₁ (c .before .before .before .before .before .before)) .args .predecessors)) (accepted (c .before .before .before .before .before .before)) (kept₃ (c .before .before))
+label-all-requires c κs = kept-labelable _ _ _ _ _ (accepted (c .before .before .before .before .before .before)) (kept₃ (c .before .before))
 
 returns-6 : tie.Need-returns-6
-returns-6 c = ends-written (N (last c)) (last c .args .source) (last c .args .departure .number) (now (last c .args .labels)) (now (last c .args .predecessors)) (replies _ _ _ _ _ (accepted (c .before .before .before .before .before .before .before .before .before .before .before)) (kept₃ (c .before .before .before .before .before .before .before))) (c .before .before .before .before .label-all .ensures .0) (c .before .before .before .before .label-all .ensures .1)
+returns-6 c =
+    let labelled = c .before .before .before .before in
+    let taken = labelled .before .before .before in
+    ends-written _ _ _ _ _ (replies _ _ _ _ _ (accepted (taken .before .before .before .before)) (kept₃ taken)) (labelled .label-all .ensures .0) (labelled .label-all .ensures .1)
 
 pub labels-spec : {M : Type 1} → statement M
 labels-spec =

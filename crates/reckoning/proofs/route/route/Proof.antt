@@ -3,7 +3,7 @@
 use borrow.Author.Needs.{needs}
 use mathlib.Core.Path.{sym, ap, _∙_}
 use mathlib.Core.Bool.{not}
-use mathlib.Core.List.{List}
+use mathlib.Core.List.{List, []}
 use Prim.Native.Nat.{_≤_}
 use lib.ListN.{take, replicate}
 use lib.Seq.{length-take-le}
@@ -52,16 +52,16 @@ fits : (c : tie.Else3) → start₁ (c .before .before .before) .args .junctions
 fits c = kept-accepted (N (start₁ (c .before .before .before))) (accepted (c .before .before .before)) .junctions-fit
 
 returns : tie.Need-returns
-returns c = network-refuses (N (start (c .before .before .before))) ((start (c .before .before .before)) .args .source) ((start (c .before .before .before)) .args .departure .number) ((start (c .before .before .before)) .args .destination) (now ((start (c .before .before .before)) .args .arcs)) _ (sym (ap outcomeOf (c .before .refusal .given .1)) ∙ c .before .before .before .network-check .ensures)
+returns c = network-refuses _ _ _ _ _ _ (sym (ap outcomeOf (c .before .refusal .given .1)) ∙ c .before .before .before .network-check .ensures)
 
 returns-2 : tie.Need-returns-2
-returns-2 c = asked-refuses (N (start₁ (c .before))) ((start₁ (c .before)) .args .source) ((start₁ (c .before)) .args .departure .number) ((start₁ (c .before)) .args .destination) (now ((start₁ (c .before)) .args .arcs)) (accepted (c .before)) 0 tt (ap not (le-ltb _ _ (c .if1 .taken)))
+returns-2 c = asked-refuses _ _ _ _ _ (accepted (c .before)) 0 tt (ap not (le-ltb _ _ (c .if1 .taken)))
 
 returns-3 : tie.Need-returns-3
-returns-3 c = asked-refuses (N (start₁ (c .before .before))) ((start₁ (c .before .before)) .args .source) ((start₁ (c .before .before)) .args .departure .number) ((start₁ (c .before .before)) .args .destination) (now ((start₁ (c .before .before)) .args .arcs)) (accepted (c .before .before)) 1 (kept₁ (c .before)) (ap not (le-ltb _ _ (c .if2 .taken)))
+returns-3 c = asked-refuses _ _ _ _ _ (accepted (c .before .before)) 1 (kept₁ (c .before)) (ap not (le-ltb _ _ (c .if2 .taken)))
 
 returns-4 : tie.Need-returns-4
-returns-4 c = asked-refuses (N (start₁ (c .before .before .before))) ((start₁ (c .before .before .before)) .args .source) ((start₁ (c .before .before .before)) .args .departure .number) ((start₁ (c .before .before .before)) .args .destination) (now ((start₁ (c .before .before .before)) .args .arcs)) (accepted (c .before .before .before)) 2 (kept₂ (c .before)) (ap not (le-ltb _ _ (c .if3 .taken)))
+returns-4 c = asked-refuses _ _ _ _ _ (accepted (c .before .before .before)) 2 (kept₂ (c .before)) (ap not (le-ltb _ _ (c .if3 .taken)))
 
 array-borrow-prefix-labels : tie.Need-array-borrow-prefix-labels
 array-borrow-prefix-labels c = fits c
@@ -76,10 +76,15 @@ slice-aggregate-reckon-route-2 : tie.Need-slice-aggregate-reckon-route-2
 slice-aggregate-reckon-route-2 c = sym (length-take-le _ (replicate 200 noArc) (fits (c .before .before)))
 
 reckon-route-requires : tie.Need-reckon-route-requires
-reckon-route-requires c κs = (asked-labelable (N (start₁ (c .before .before .before .before .before .before))) ((start₁ (c .before .before .before .before .before .before)) .args .source) ((start₁ (c .before .before .before .before .before .before)) .args .departure .number) ((start₁ (c .before .before .before .before .before .before)) .args .destination) (now ((start₁ (c .before .before .before .before .before .before)) .args .arcs)) (accepted (c .before .before .before .before .before .before)) (kept₃ (c .before .before .before)) (length-take-le _ (replicate 200 never) (fits (c .before .before .before))) (length-take-le _ (replicate 200 noArc) (fits (c .before .before .before))), c .before .before .before .if3 .left)
+reckon-route-requires c κs =
+    let taken = c .before .before .before in
+    (asked-labelable _ _ _ _ [] (accepted (taken .before .before .before)) (kept₃ taken) (length-take-le _ (replicate 200 never) (fits taken)) (length-take-le _ (replicate 200 noArc) (fits taken)), taken .if3 .left)
 
 returns-5 : tie.Need-returns-5
-returns-5 c = found-ends (N (start₁ (c .before .before .before .before .before .before .before .before .before .before .before))) ((start₁ (c .before .before .before .before .before .before .before .before .before .before .before)) .args .source) ((start₁ (c .before .before .before .before .before .before .before .before .before .before .before)) .args .departure .number) ((start₁ (c .before .before .before .before .before .before .before .before .before .before .before)) .args .destination) (now ((start₁ (c .before .before .before .before .before .before .before .before .before .before .before)) .args .arcs)) (accepted (c .before .before .before .before .before .before .before .before .before .before .before)) (kept₃ (c .before .before .before .before .before .before .before .before)) (c .before .before .before .before .reckon-route .ensures)
+returns-5 c =
+    let reckoned = c .before .before .before .before in
+    let taken = reckoned .before .before .before .before in
+    found-ends _ _ _ _ _ (accepted (taken .before .before .before)) (kept₃ taken) (reckoned .reckon-route .ensures)
 
 pub route-spec : {M : Type 1} → statement M
 route-spec =

@@ -35,8 +35,11 @@ abbrev pub intervals : Network → ℕ
 intervals N = length (N .fences)
 
 -- "Each arc has one speed per interval": the speeds stand arc by arc.
+abbrev pub arcSpeeds : List ℕ → List ℕ → ℕ → List ℕ
+arcSpeeds fences speeds a = take (length fences) (drop (a * length fences) speeds)
+
 abbrev pub speedsOf : Network → ℕ → List ℕ
-speedsOf N a = take (intervals N) (drop (a * intervals N) (N .speeds))
+speedsOf N a = arcSpeeds (N .fences) (N .speeds) a
 
 -- The rules of a network.
 pub record Accepted (N : Network) : Type 0 where
@@ -56,9 +59,12 @@ pub record Accepted (N : Network) : Type 0 where
   pub length-fits : (a : ℕ) → a < arcs N → getD (N .lengths) a 0 ≤ maxLength
   pub speed-fits : (i : ℕ) → i < arcs N * intervals N → getD (N .speeds) i 0 ≤ maxSpeed
 
--- The arrival on an arc that is left at a tick.
+-- The arrival on an arc that is left at a tick, from the tables that it takes; and of a network.
+abbrev pub arrivalOn : List ℕ → List ℕ → List ℕ → ℕ → ℕ → ℕ
+arrivalOn fences lengths speeds a t = arrival (speedAt fences (arcSpeeds fences speeds a)) (spansOf (getD lengths a 0)) t
+
 unfoldable pub driveOf : Network → ℕ → ℕ → ℕ
-driveOf N a t = arrival (speedAt (N .fences) (speedsOf N a)) (spansOf (getD (N .lengths) a 0)) t
+driveOf N a t = arrivalOn (N .fences) (N .lengths) (N .speeds) a t
 
 abbrev pub netOf : Network → Net
 netOf N = record {

@@ -1,16 +1,16 @@
 -- Following predecessors: the arcs that are left lead on to the source. Counting adds one for each; writing puts each before
 -- those already written, so that the list ends in driving order.
 use Prim.Native.Nat.{ℕ, zero, suc, _+_, _-_, _≤_, _<_, zero-le, suc-le-suc}
-use mathlib.Core.Path.{_≡_, refl, sym, ap, subst, _∙_}
+use mathlib.Core.Path.{_≡_, refl, sym, ap, _∙_}
 use mathlib.Core.Bool.{Bool, true, false, cond}
 use mathlib.Core.List.{List, [], _∷_, _++_, reverse, reverseAux, append-assoc}
 use native.Mathlib.Omega.{arith}
 use lib.Dec.{eqb}
-use lib.ListN.{length, getD, set, take, drop, take-append-drop, length-set, length-append, length-drop, length-reverse}
+use lib.ListN.{length, getD, set, take, drop, take-append-drop, length-set}
 use lib.Seq.{take-suc, set-at, length-take-le}
 use Rattle.model.specs.Labels.{noArc}
 use Rattle.model.specs.Routes.{arcsBack}
-use Rattle.reckoning.specs.Following.{backFrom, Leads, here, back}
+use Rattle.reckoning.specs.Following.{Leads, here, back}
 use Rattle.reckoning.specs.Route.{written}
 
 -- No more arcs are found than are allowed.

@@ -1,20 +1,20 @@
 -- Labels' rules: where a rule is broken, the call is refused and the buffers are as they were; where none is, the plain
 -- conditions hold, and the demands hold of the buffers that the calls leave.
-use Prim.Native.Nat.{ℕ, _<_}
-use mathlib.Core.Path.{_≡_, refl, sym, ap, subst, _∙_}
+use Prim.Native.Nat.{ℕ}
+use mathlib.Core.Path.{_≡_, refl, sym, ap, _∙_}
 use mathlib.Core.Bool.{true, false, not, _&&_}
 use mathlib.Core.List.{List, _++_}
 use lib.Dec.{ltb, eqb}
 use lib.ListN.{length, getD, take}
 use borrow.Author.Tests.{not-false, ltb-true, eqb-true, lt-ltb, eq-eqb}
-use Rattle.model.specs.Ticks.{day, never}
+use Rattle.model.specs.Ticks.{day}
 use Rattle.model.specs.Network.{Network, netOf}
 use Rattle.model.specs.NetworkRules.{networkRules, networkCheck}
 use Rattle.model.specs.Labels.{labelsOf, predecessorsOf}
 use Rattle.model.specs.Rules.{AllKept, Outcome, refused, replied, _if_, firstBroken}
 use Rattle.model.proofs.Demands.{demand-2, demand-3, only-tables-of-network}
 use Rattle.model.proofs.NetworkRules.{kept-accepted, accepted-kept}
-use Rattle.model.proofs.Rules.{kept-replies, replies-kept, kept-next, refused-at, refused-before, kept-before, kept-append, both-true, true-both}
+use Rattle.model.proofs.Rules.{kept-replies, replies-kept, refused-at, refused-before, kept-before, kept-append, both-true, true-both}
 use Rattle.reckoning.specs.Labelling.{Labelable}
 use Rattle.reckoning.specs.Labels.{questionRules, labelsAnswer, labelsAfter, predecessorsAfter, LabelsRepliesWhenLabelable, Demand2OfCall, Demand3OfCalls}
 

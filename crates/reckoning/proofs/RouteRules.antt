@@ -1,16 +1,16 @@
 -- Route's rules and its route: the predecessors that the labelling leaves lead back to the source, and in driving order they are
 -- the route; where a rule is broken the call is refused and the list is as it was.
 use Prim.Native.Nat.{ℕ, _≤_, _<_}
-use mathlib.Core.Path.{_≡_, refl, sym, ap, subst, _∙_}
+use mathlib.Core.Path.{_≡_, sym, ap, _∙_}
 use mathlib.Core.Bool.{true, false, not}
-use mathlib.Core.List.{List, [], _∷_, _++_, reverse}
+use mathlib.Core.List.{List, _++_, reverse}
 use native.Mathlib.Nat.{lt-of-not-le}
 use native.Mathlib.Omega.{arith}
-use lib.Dec.{ltb, eqb}
+use lib.Dec.{ltb}
 use lib.ListN.{length, getD, take, drop}
 use lib.Seq.{take-append-seam}
 use borrow.Author.Tests.{not-false, ltb-true, ltb-false, eqb-false, lt-ltb, le-ltb, ne-eqb}
-use Rattle.model.specs.Ticks.{day, last, never}
+use Rattle.model.specs.Ticks.{day, never}
 use Rattle.model.specs.Network.{Network, Accepted, netOf}
 use Rattle.model.specs.NetworkRules.{networkRules, networkCheck}
 use Rattle.model.specs.Demands.{label}
@@ -23,9 +23,9 @@ use Rattle.model.proofs.OnlyTables.{labels-certified}
 use Rattle.model.proofs.Routes.{allBack, route-reverses, whole, demand-2-of-route}
 use Rattle.model.proofs.Trails.{Trail, here, back}
 use Rattle.model.proofs.Rules.{kept-replies, replies-kept, refused-at, refused-before, kept-before, kept-append}
-use Rattle.reckoning.specs.Following.{backFrom, Leads}
+use Rattle.reckoning.specs.Following.{backFrom, Leads, foundAnswer, foundAfter}
 use Rattle.reckoning.specs.Labelling.{Labelable}
-use Rattle.reckoning.specs.Route.{askedRules, foundRules, routeAnswer, arcsAfter, foundAnswer, foundAfter, written, Routable, RouteRepliesWhenRoutable, Demand2OfRouteCall, RoomForEveryRoute}
+use Rattle.reckoning.specs.Route.{askedRules, foundRules, routeAnswer, arcsAfter, written, Routable, RouteRepliesWhenRoutable, Demand2OfRouteCall, RoomForEveryRoute}
 use Rattle.reckoning.proofs.Turns.{getD-inside}
 
 -- ---- The way back

@@ -1,25 +1,24 @@
 -- The labelling's two loops on a network. Between the turns of the outer loop every arc of a settled junction has offered
 -- (`Round`); between those of the inner loop the arcs of the settled junction before arc a have (`Turn`).
 use Prim.Native.Nat.{ℕ, zero, suc, _+_, _*_, _≤_, _<_}
-use mathlib.Core.Path.{_≡_, refl, sym, ap, _∙_}
-use mathlib.Core.Bool.{Bool, true, false, cond}
+use mathlib.Core.Path.{_≡_, refl, sym, _∙_}
+use mathlib.Core.Bool.{Bool, true, false}
 use mathlib.Core.List.{List, [], _∷_}
 use mathlib.Core.Logic.{_⊎_, inl, inr, ⊎-elim, by-cases}
 use native.Mathlib.Decide.{decLt, ℕ-discrete}
 use native.Mathlib.Nat.{mul-le-mul-right, suc-mul}
 use native.Mathlib.Omega.{arith}
-use lib.Dec.{ltb, eqb}
-use lib.ListN.{length, getD, set, take, drop, replicate, length-set, length-take, length-drop, length-replicate, getD-replicate}
-use lib.Seq.{getD-take, getD-drop, getD-set-same, getD-set-other}
-use borrow.Author.Tests.{lt-ltb, le-ltb, eq-eqb, ne-eqb}
-use Rattle.model.specs.Ticks.{day, last, never}
+use lib.ListN.{length, getD, set, replicate, length-set, length-take, length-drop, length-replicate}
+use lib.Seq.{getD-set-same, getD-set-other}
+use borrow.Author.Tests.{lt-ltb, le-ltb}
+use Rattle.model.specs.Ticks.{last, never}
 use Rattle.model.specs.Intervals.{passed}
-use Rattle.model.specs.Network.{Network, Accepted, arcs, intervals, driveOf, netOf}
+use Rattle.model.specs.Network.{Network, Accepted, arcs, intervals, driveOf, netOf, arcSpeeds, arrivalOn}
 use Rattle.model.specs.Labels.{noArc, labelsOf, predecessorsOf}
 use Rattle.model.proofs.Networks.{accepted-sound}
 use Rattle.model.proofs.Tests.{ltb-cases, eqb-cases}
 use Rattle.reckoning.specs.ArcKept.{ArcKept}
-use Rattle.reckoning.specs.Labelling.{arcFrom, Linked, Nearest, arcSpeeds, arrivalOn, lowered, taken, Offerable, Labelable}
+use Rattle.reckoning.specs.Labelling.{arcFrom, Linked, Nearest, lowered, taken, Offerable, Labelable}
 use Rattle.reckoning.proofs.Flags.{true-not-false}
 use Rattle.reckoning.proofs.Linking.{arc-from, arc-from-least}
 use Rattle.reckoning.proofs.Settling.{Settling, settling-starts, settling-weakens, settle, settled-label-stays, offer-keeps, offer-skips, offer-lowers, offer-ties, settling-ends}

@@ -5,13 +5,11 @@ use mathlib.Core.Bool.{Bool, false, _&&_, cond}
 use mathlib.Core.List.{List, [], _∷_}
 use mathlib.Core.Option.{Option, none, some}
 use lib.Dec.{ltb, eqb}
-use lib.ListN.{length, getD, set, take, drop}
+use lib.ListN.{length, getD, set, drop}
 use Rattle.model.specs.Ticks.{day, never}
 use Rattle.model.specs.Limits.{maxJunctions, maxArcs, maxIntervals}
-use Rattle.model.specs.Flow.{spansOf, arrival}
-use Rattle.model.specs.Intervals.{speedAt}
 use Rattle.model.specs.Labels.{noArc}
-use Rattle.model.specs.Network.{Network, Accepted}
+use Rattle.model.specs.Network.{Network, Accepted, arcSpeeds}
 use Rattle.reckoning.specs.ArcKept.{ArcKept}
 
 -- ---- The arcs of a tail
@@ -46,13 +44,6 @@ pub record Nearest (labels : List ℕ) (settled : List Bool) (junction : ℕ) : 
 abbrev pub labelOf : Option ℕ → ℕ
 labelOf (some t) = t
 labelOf none = never
-
--- The speeds of an arc, and its arrival when left at a tick.
-abbrev pub arcSpeeds : List ℕ → List ℕ → ℕ → List ℕ
-arcSpeeds fences speeds a = take (length fences) (drop (a * length fences) speeds)
-
-abbrev pub arrivalOn : List ℕ → List ℕ → List ℕ → ℕ → ℕ → ℕ
-arrivalOn fences lengths speeds a tick = arrival (speedAt fences (arcSpeeds fences speeds a)) (spansOf (getD lengths a 0)) tick
 
 -- An earlier arrival lowers the head's label.
 abbrev pub lowered : List ℕ → ℕ → ℕ → List ℕ

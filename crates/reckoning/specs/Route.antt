@@ -7,7 +7,7 @@ use mathlib.Core.Bool.{not}
 use mathlib.Core.List.{List, [], _∷_, _++_}
 use mathlib.Core.Logic.{_↔_}
 use lib.Dec.{ltb, eqb}
-use lib.ListN.{length, getD, take, drop}
+use lib.ListN.{length, take, drop}
 use Rattle.model.specs.Ticks.{day, never}
 use Rattle.model.specs.Network.{Network, Accepted, netOf}
 use Rattle.model.specs.NetworkRules.{networkRules}
@@ -48,14 +48,6 @@ routeAnswer N source departure destination arcs =
 abbrev pub arcsAfter : Network → ℕ → ℕ → ℕ → List ℕ → List ℕ
 arcsAfter N source departure destination arcs =
     after (routeAnswer N source departure destination arcs) (written (routeOf (netOf N) source departure destination) arcs) arcs
-
--- The same of a question that is taken: the rules on what is found alone.
-unfoldable pub foundAnswer : Network → ℕ → ℕ → ℕ → List ℕ → Outcome ℕ
-foundAnswer N source departure destination arcs = firstBroken (foundRules N source departure destination arcs) (length (routeOf (netOf N) source departure destination))
-
-abbrev pub foundAfter : Network → ℕ → ℕ → ℕ → List ℕ → List ℕ
-foundAfter N source departure destination arcs =
-    after (foundAnswer N source departure destination arcs) (written (routeOf (netOf N) source departure destination) arcs) arcs
 
 -- ---- What is proved of it
 

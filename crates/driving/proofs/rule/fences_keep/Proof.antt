@@ -1,7 +1,7 @@
 -- `rule::fences_keep` is the test `fencesKeep` of the whole table: the invariant says so of the fences that are left, after the one before them.
 use borrow.Author.Needs.{needs}
 use Prim.Native.Nat.{_-_}
-use mathlib.Core.Path.{_≡_, refl}
+use mathlib.Core.Path.{_≡_}
 use lib.ListN.{length, drop}
 use Rattle.model.specs.Rules.{riseFrom, fencesKeep}
 use Rattle.driving.proofs.Scan.{none-keep, first-fails, first-keeps, rise-fails, rise-too-late, rise-goes-on, rise-ends}

@@ -5,16 +5,15 @@ use Prim.Native.Nat.{_-_, _<_}
 use mathlib.Core.Path.{refl, sym, ap, subst, _∙_}
 use mathlib.Core.Logic.{⊎-elim}
 use native.Mathlib.Omega.{arith}
-use lib.ListN.{length, getD, set, replicate, length-set, length-replicate}
+use lib.ListN.{length, getD, set, replicate, length-replicate}
 use mir.Facts.{fits-widen}
 use denote.Ref.{now}
 use borrow.Author.Tests.{not-true, not-false}
 use Rattle.model.specs.Ticks.{never}
 use Rattle.model.specs.Labels.{noArc}
-use Rattle.model.specs.Intervals.{passed}
 use Rattle.model.specs.Network.{Network, network}
 use Rattle.model.proofs.IntervalWalk.{some-passed}
-use Rattle.reckoning.specs.Labelling.{Linked, Nearest, Labelable}
+use Rattle.reckoning.specs.Labelling.{Linked, Nearest}
 use Rattle.reckoning.proofs.Turns.{waiting, waiting-falls, Round, round-starts, round-ends, Turn, turn-starts, turn-offerable, turn-skips, turn-offers, next-higher, turn-ends}
 use Rattle.reckoning.proofs.labelling.label_all.Statement.{statement}
 use Rattle.reckoning.proofs.labelling.label_all.Tie as tie

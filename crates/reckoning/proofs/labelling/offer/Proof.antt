@@ -2,7 +2,7 @@
 -- stands for one way in which that compares with the head's label.
 use borrow.Author.Needs.{needs}
 use Prim.Native.Nat.{ℕ, _-_, _+_, _*_, _<_}
-use mathlib.Core.Path.{_≡_, sym, ap, _∙_}
+use mathlib.Core.Path.{_≡_, ap, _∙_}
 use native.Mathlib.Nat.{add-sub-cancel-left}
 use native.Mathlib.Omega.{arith}
 use lib.ListN.{length, getD, take, drop}
@@ -11,7 +11,8 @@ use Rattle.model.specs.Ticks.{never, tick?}
 use Rattle.model.specs.Flow.{spansOf}
 use Rattle.model.specs.Intervals.{walkFrom}
 use Rattle.model.proofs.Arrival.{arrival-by-last}
-use Rattle.reckoning.specs.Labelling.{labelOf, arrivalOn}
+use Rattle.model.specs.Network.{arrivalOn}
+use Rattle.reckoning.specs.Labelling.{labelOf}
 use Rattle.reckoning.proofs.ArcKept.{walk-is-arc-arrival}
 use Rattle.reckoning.proofs.Offered.{label-of-tick, leaves-lower, leaves-unreached, leaves-tie, leaves-tie-kept, leaves-later}
 use Rattle.reckoning.proofs.labelling.offer.Statement.{statement}

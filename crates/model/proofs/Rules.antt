@@ -31,6 +31,10 @@ replies-kept (rule ∷ rules) reply reply′ e =
     let parts = not-refused (rule .broken) (rule .number) (firstBroken rules reply) reply′ e in
     (parts .0, replies-kept rules reply reply′ (parts .1))
 
+pub append-kept : (rules rest : List Rule) → AllKept rules → AllKept rest → AllKept (rules ++ rest)
+append-kept [] rest kept more = more
+append-kept (rule ∷ rules) rest kept more = (kept .0, append-kept rules rest (kept .1) more)
+
 -- One rule more.
 pub kept-next : (rules : List Rule) (k : ℕ) → AllKept (take k rules) → (getD rules k (0 if false)) .broken ≡ false → AllKept (take (suc k) rules)
 kept-next [] k kept here = tt

@@ -2,21 +2,20 @@
 -- conditions hold, and the demands hold of the buffers that the calls leave.
 use Prim.Native.Nat.{ℕ}
 use mathlib.Core.Path.{_≡_, refl, sym, ap, _∙_}
-use mathlib.Core.Bool.{true, false, not, _&&_}
+use mathlib.Core.Bool.{true, not, _&&_}
 use mathlib.Core.List.{List, _++_}
-use lib.Dec.{ltb, eqb}
-use lib.ListN.{length, getD, take}
-use borrow.Author.Tests.{not-false, ltb-true, eqb-true, lt-ltb, eq-eqb}
-use Rattle.model.specs.Ticks.{day}
+use lib.Dec.{eqb}
+use lib.ListN.{length}
+use borrow.Author.Tests.{not-false, eqb-true, eq-eqb}
 use Rattle.model.specs.Network.{Network, netOf}
-use Rattle.model.specs.NetworkRules.{networkRules, networkCheck}
 use Rattle.model.specs.Labels.{labelsOf, predecessorsOf}
-use Rattle.model.specs.Rules.{AllKept, Outcome, refused, replied, _if_, firstBroken}
+use Rattle.model.specs.Rules.{AllKept, Outcome, refused, replied, Rule, firstBroken}
 use Rattle.model.proofs.Demands.{demand-2, demand-3, only-tables-of-network}
-use Rattle.model.proofs.NetworkRules.{kept-accepted, accepted-kept}
 use Rattle.model.proofs.Rules.{kept-replies, replies-kept, refused-at, refused-before, kept-before, kept-append, both-true, true-both}
 use Rattle.reckoning.specs.Labelling.{Labelable}
-use Rattle.reckoning.specs.Labels.{questionRules, labelsAnswer, labelsAfter, predecessorsAfter, LabelsRepliesWhenLabelable, Demand2OfCall, Demand3OfCalls}
+use Rattle.reckoning.specs.Question.{questionRules, questionCheck}
+use Rattle.reckoning.proofs.QuestionRules.{Taken, kept-taken, taken-kept}
+use Rattle.reckoning.specs.Labels.{bufferRules, labelsAnswer, labelsAfter, predecessorsAfter, LabelsRepliesWhenLabelable, Demand2OfCall, Demand3OfCalls}
 
 module _ (N : Network) (source departure : ℕ) (labels predecessors : List ℕ) where
   abbrev answer : Outcome (Unit {0})
@@ -30,48 +29,47 @@ module _ (N : Network) (source departure : ℕ) (labels predecessors : List ℕ)
   ends-refused : {number : ℕ} → refused number ≡ answer → Ends (refused number) labels predecessors
   ends-refused e = (e, (rw (← e), rw (← e)))
 
-  pub network-refuses : (number : ℕ) → refused number ≡ networkCheck N → Ends (refused number) labels predecessors
-  unfolding labelsAnswer networkCheck
-  network-refuses number e = ends-refused (sym (refused-before (networkRules N) (questionRules N source departure labels predecessors) tt tt number (sym e)))
+  abbrev buffers : List Rule
+  buffers = bufferRules N labels predecessors
 
-  -- Where the network is accepted, the question's rules decide.
-  module _ (accepted : AllKept (networkRules N)) where
-    rest-decides : answer ≡ firstBroken (questionRules N source departure labels predecessors) tt
+  pub question-refuses : (number : ℕ) → refused number ≡ questionCheck N source departure → Ends (refused number) labels predecessors
+  unfolding labelsAnswer questionCheck
+  question-refuses number e = ends-refused (sym (refused-before (questionRules N source departure) buffers tt tt number (sym e)))
+
+  -- Where the question is taken, the rule on the buffers decides.
+  module _ (taken : AllKept (questionRules N source departure)) where
+    rest-decides : answer ≡ firstBroken buffers tt
     unfolding labelsAnswer
-    rest-decides = kept-before (networkRules N) (questionRules N source departure labels predecessors) tt accepted
+    rest-decides = kept-before (questionRules N source departure) buffers tt taken
 
-    pub question-refuses : (k : ℕ) → AllKept (take k (questionRules N source departure labels predecessors)) →
-        (getD (questionRules N source departure labels predecessors) k (0 if false)) .broken ≡ true →
-        Ends (refused ((getD (questionRules N source departure labels predecessors) k (0 if false)) .number)) labels predecessors
-    question-refuses k kept broken = ends-refused (refused-at (questionRules N source departure labels predecessors) tt k kept broken ∙ sym rest-decides)
+    pub buffers-refuse : not (eqb (length labels) (N .junctions) && eqb (length predecessors) (N .junctions)) ≡ true → Ends (refused 11) labels predecessors
+    buffers-refuse broken = ends-refused (refused-at buffers tt 0 tt broken ∙ sym rest-decides)
 
-    pub replies : AllKept (questionRules N source departure labels predecessors) → answer ≡ replied tt
-    replies kept = rest-decides ∙ kept-replies (questionRules N source departure labels predecessors) tt kept
+    pub replies : AllKept buffers → answer ≡ replied tt
+    replies kept = rest-decides ∙ kept-replies buffers tt kept
 
-  pub kept-labelable : AllKept (networkRules N) → AllKept (questionRules N source departure labels predecessors) → Labelable N source departure labels predecessors
-  kept-labelable accepted kept =
-      let long = true-both (eqb (length labels) (N .junctions)) (eqb (length predecessors) (N .junctions)) (not-false _ (kept .1 .1 .0)) in
+  pub kept-labelable : AllKept (questionRules N source departure) → AllKept buffers → Labelable N source departure labels predecessors
+  kept-labelable question kept =
+      let t = kept-taken N source departure question in
+      let long = true-both (eqb (length labels) (N .junctions)) (eqb (length predecessors) (N .junctions)) (not-false _ (kept .0)) in
       record {
-        accepted = kept-accepted N accepted;
-        source-below = ltb-true source (N .junctions) (not-false (ltb source (N .junctions)) (kept .0));
-        departure-below = ltb-true departure day (not-false (ltb departure day) (kept .1 .0));
+        accepted = t .accepted;
+        source-below = t .source-below;
+        departure-below = t .departure-below;
         labels-long = eqb-true (length labels) (N .junctions) (long .0);
         predecessors-long = eqb-true (length predecessors) (N .junctions) (long .1);
       }
 
-  labelable-kept : Labelable N source departure labels predecessors → AllKept (questionRules N source departure labels predecessors)
-  labelable-kept q = (
-    ap not (lt-ltb source (N .junctions) (q .source-below)),
-    (
-      ap not (lt-ltb departure day (q .departure-below)),
-      (ap not (both-true (eq-eqb (length labels) (N .junctions) (q .labels-long)) (eq-eqb (length predecessors) (N .junctions) (q .predecessors-long))), tt),
-    ),
-  )
+  labelable-question : Labelable N source departure labels predecessors → AllKept (questionRules N source departure)
+  labelable-question q = taken-kept N source departure (record { accepted = q .accepted; source-below = q .source-below; departure-below = q .departure-below })
+
+  labelable-buffers : Labelable N source departure labels predecessors → AllKept buffers
+  labelable-buffers q = (ap not (both-true (eq-eqb (length labels) (N .junctions) (q .labels-long)) (eq-eqb (length predecessors) (N .junctions) (q .predecessors-long))), tt)
 
   answered : answer ≡ replied tt → Labelable N source departure labels predecessors
   unfolding labelsAnswer
   answered e =
-      let kept = kept-append (networkRules N) (questionRules N source departure labels predecessors) (replies-kept (networkRules N ++ questionRules N source departure labels predecessors) tt tt e) in
+      let kept = kept-append (questionRules N source departure) buffers (replies-kept (questionRules N source departure ++ buffers) tt tt e) in
       kept-labelable (kept .0) (kept .1)
 
   pub ends-written : {labels′ predecessors′ : List ℕ} → answer ≡ replied tt → labels′ ≡ labelsOf (netOf N) source departure → predecessors′ ≡ predecessorsOf (netOf N) source departure →
@@ -82,7 +80,7 @@ module _ (N : Network) (source departure : ℕ) (labels predecessors : List ℕ)
 
 pub labels-replies-when-labelable : LabelsRepliesWhenLabelable
 labels-replies-when-labelable N source departure labels predecessors =
-    (answered N source departure labels predecessors, (λ q. replies N source departure labels predecessors (accepted-kept N (q .accepted)) (labelable-kept N source departure labels predecessors q)))
+    (answered N source departure labels predecessors, (λ q. replies N source departure labels predecessors (labelable-question N source departure labels predecessors q) (labelable-buffers N source departure labels predecessors q)))
 
 pub demand-2-of-call : Demand2OfCall
 demand-2-of-call N source departure labels predecessors e =

@@ -8,6 +8,7 @@ pub mod LabelRules
 pub mod Linking
 pub mod Nearing
 pub mod Offered
+pub mod QuestionRules
 pub mod RouteRules
 pub mod Settling
 pub mod Turns

@@ -12,20 +12,19 @@ use lib.Seq.{take-append-seam}
 use borrow.Author.Tests.{not-false, ltb-true, ltb-false, eqb-false, lt-ltb, le-ltb, ne-eqb}
 use Rattle.model.specs.Ticks.{day, never}
 use Rattle.model.specs.Network.{Network, Accepted, netOf}
-use Rattle.model.specs.NetworkRules.{networkRules, networkCheck}
 use Rattle.model.specs.Demands.{label}
 use Rattle.model.specs.Labels.{noArc, labelsOf, predecessorsOf}
 use Rattle.model.specs.Routes.{routeOf}
 use Rattle.model.specs.Rules.{Outcome, refused, replied, Rule, _if_, firstBroken, AllKept}
 use Rattle.model.proofs.Networks.{accepted-sound}
-use Rattle.model.proofs.NetworkRules.{kept-accepted, accepted-kept}
 use Rattle.model.proofs.OnlyTables.{labels-certified}
 use Rattle.model.proofs.Routes.{allBack, route-reverses, whole, demand-2-of-route}
 use Rattle.model.proofs.Trails.{Trail, here, back}
 use Rattle.model.proofs.Rules.{kept-replies, replies-kept, refused-at, refused-before, kept-before, kept-append}
 use Rattle.reckoning.specs.Following.{backFrom, Leads, foundAnswer, foundAfter}
-use Rattle.reckoning.specs.Labelling.{Labelable}
-use Rattle.reckoning.specs.Route.{askedRules, foundRules, routeAnswer, arcsAfter, written, Routable, RouteRepliesWhenRoutable, Demand2OfRouteCall, RoomForEveryRoute}
+use Rattle.reckoning.specs.Question.{questionRules, questionCheck}
+use Rattle.reckoning.proofs.QuestionRules.{Taken, kept-taken, taken-kept}
+use Rattle.reckoning.specs.Route.{destinationRules, foundRules, routeAnswer, arcsAfter, written, Routable, RouteRepliesWhenRoutable, Demand2OfRouteCall, RoomForEveryRoute}
 use Rattle.reckoning.proofs.Turns.{getD-inside}
 
 -- ---- The way back
@@ -70,8 +69,11 @@ module _ (N : Network) (source departure destination : ℕ) (arcs : List ℕ) wh
   abbrev route : List ℕ
   route = routeOf (netOf N) source departure destination
 
+  abbrev question : List Rule
+  question = questionRules N source departure
+
   abbrev asked : List Rule
-  asked = askedRules N source departure destination
+  asked = destinationRules N destination
 
   abbrev found : List Rule
   found = foundRules N source departure destination arcs
@@ -96,18 +98,18 @@ module _ (N : Network) (source departure destination : ℕ) (arcs : List ℕ) wh
   ends-refused : {number : ℕ} → refused number ≡ routeAnswer N source departure destination arcs → Ends (refused number) arcs
   ends-refused e = (e, rw (← e))
 
-  pub network-refuses : (number : ℕ) → refused number ≡ networkCheck N → Ends (refused number) arcs
-  unfolding routeAnswer networkCheck
-  network-refuses number e = ends-refused (sym (refused-before (networkRules N) (asked ++ found) tt (length route) number (sym e)))
+  pub question-refuses : (number : ℕ) → refused number ≡ questionCheck N source departure → Ends (refused number) arcs
+  unfolding routeAnswer questionCheck
+  question-refuses number e = ends-refused (sym (refused-before question (asked ++ found) tt (length route) number (sym e)))
 
-  -- Where the network is accepted, the question's rules decide, and then those on what is found.
-  module _ (accepted : AllKept (networkRules N)) where
+  -- Where the question is taken, the rule on the destination decides, and then those on what is found.
+  module _ (taken : AllKept question) where
     asked-decides : routeAnswer N source departure destination arcs ≡ firstBroken (asked ++ found) (length route)
     unfolding routeAnswer
-    asked-decides = kept-before (networkRules N) (asked ++ found) (length route) accepted
+    asked-decides = kept-before question (asked ++ found) (length route) taken
 
-    pub asked-refuses : (k : ℕ) → AllKept (take k (asked ++ found)) → (getD (asked ++ found) k (0 if false)) .broken ≡ true → Ends (refused ((getD (asked ++ found) k (0 if false)) .number)) arcs
-    asked-refuses k kept broken = ends-refused (refused-at (asked ++ found) (length route) k kept broken ∙ sym asked-decides)
+    pub destination-refuses : not (ltb destination (N .junctions)) ≡ true → Ends (refused 12) arcs
+    destination-refuses broken = ends-refused (refused-at (asked ++ found) (length route) 0 tt broken ∙ sym asked-decides)
 
     found-decides : AllKept asked → routeAnswer N source departure destination arcs ≡ foundAnswer N source departure destination arcs
     unfolding foundAnswer
@@ -116,45 +118,41 @@ module _ (N : Network) (source departure destination : ℕ) (arcs : List ℕ) wh
     pub found-ends : {outcome : Outcome ℕ} {arcs′ : List ℕ} → AllKept asked → EndsFound outcome arcs′ → Ends outcome arcs′
     found-ends kept e = rw (found-decides kept) e
 
-  pub asked-labelable : AllKept (networkRules N) → AllKept asked → {labels predecessors : List ℕ} → length labels ≡ N .junctions → length predecessors ≡ N .junctions → Labelable N source departure labels predecessors
-  asked-labelable network question labels-long predecessors-long = record {
-    accepted = kept-accepted N network;
-    source-below = ltb-true source (N .junctions) (not-false (ltb source (N .junctions)) (question .0));
-    departure-below = ltb-true departure day (not-false (ltb departure day) (question .1 .0));
-    labels-long = labels-long;
-    predecessors-long = predecessors-long;
-  }
+  kept-routable : AllKept question → AllKept asked → AllKept found → Routable N source departure destination arcs
+  kept-routable kept below kept-found =
+      let t = kept-taken N source departure kept in
+      record {
+        accepted = t .accepted;
+        source-below = t .source-below;
+        departure-below = t .departure-below;
+        destination-below = ltb-true destination (N .junctions) (not-false (ltb destination (N .junctions)) (below .0));
+        reached = eqb-false (label N source departure destination) never (kept-found .0);
+        long-enough = λ h. omega (arith, ltb-false (length arcs) (length route) (kept-found .1 .0));
+      }
 
-  kept-routable : AllKept (networkRules N) → AllKept asked → AllKept found → Routable N source departure destination arcs
-  kept-routable network question kept = record {
-    accepted = kept-accepted N network;
-    source-below = ltb-true source (N .junctions) (not-false (ltb source (N .junctions)) (question .0));
-    departure-below = ltb-true departure day (not-false (ltb departure day) (question .1 .0));
-    destination-below = ltb-true destination (N .junctions) (not-false (ltb destination (N .junctions)) (question .1 .1 .0));
-    reached = eqb-false (label N source departure destination) never (kept .0);
-    long-enough = λ h. omega (arith, ltb-false (length arcs) (length route) (kept .1 .0));
-  }
+  routable-question : Routable N source departure destination arcs → AllKept question
+  routable-question r = taken-kept N source departure (record { accepted = r .accepted; source-below = r .source-below; departure-below = r .departure-below })
 
   routable-kept : Routable N source departure destination arcs → AllKept asked × AllKept found
   routable-kept r = (
-    (ap not (lt-ltb source (N .junctions) (r .source-below)), (ap not (lt-ltb departure day (r .departure-below)), (ap not (lt-ltb destination (N .junctions) (r .destination-below)), tt))),
+    (ap not (lt-ltb destination (N .junctions) (r .destination-below)), tt),
     (ne-eqb (label N source departure destination) never (r .reached), (le-ltb (length arcs) (length route) (le-of-not-lt (r .long-enough)), tt)),
   )
 
   answered : (count : ℕ) → routeAnswer N source departure destination arcs ≡ replied count → Routable N source departure destination arcs × (count ≡ length route)
   unfolding routeAnswer
   answered count e =
-      let all = replies-kept (networkRules N ++ (asked ++ found)) (length route) count e in
-      let first = kept-append (networkRules N) (asked ++ found) all in
+      let all = replies-kept (question ++ (asked ++ found)) (length route) count e in
+      let first = kept-append question (asked ++ found) all in
       let rest = kept-append asked found (first .1) in
-      let answer = kept-replies (networkRules N ++ (asked ++ found)) (length route) all in
+      let answer = kept-replies (question ++ (asked ++ found)) (length route) all in
       (kept-routable (first .0) (rest .0) (rest .1), cc)
 
   replies : Routable N source departure destination arcs → routeAnswer N source departure destination arcs ≡ replied (length route)
   unfolding foundAnswer
   replies r =
       let kept = routable-kept r in
-      found-decides (accepted-kept N (r .accepted)) (kept .0) ∙ kept-replies found (length route) (kept .1)
+      found-decides (routable-question r) (kept .0) ∙ kept-replies found (length route) (kept .1)
 
 -- ---- The statements
 

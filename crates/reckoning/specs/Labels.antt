@@ -6,17 +6,17 @@ use mathlib.Core.Path.{_≡_}
 use mathlib.Core.Bool.{not, _&&_}
 use mathlib.Core.List.{List, [], _∷_, _++_}
 use mathlib.Core.Logic.{_↔_}
-use lib.Dec.{ltb, eqb}
+use lib.Dec.{eqb}
 use lib.ListN.{length, getD}
-use Rattle.model.specs.Ticks.{day, never}
+use Rattle.model.specs.Ticks.{never}
 use Rattle.model.specs.Network.{Network, netOf}
-use Rattle.model.specs.NetworkRules.{networkRules}
 use Rattle.model.specs.Labels.{labelsOf, predecessorsOf, Certified, Lowest}
 use Rattle.model.specs.Walks.{Earliest}
 use Rattle.model.specs.Demands.{Improves}
 use Rattle.model.specs.Refusals.{numberOf}
 use Rattle.model.specs.Rules.{Outcome, refused, replied, Rule, _if_, firstBroken, after}
 use Rattle.reckoning.specs.Labelling.{Labelable}
+use Rattle.reckoning.specs.Question.{questionRules}
 use Rattle.reckoning.specs.declared.labels.Labelled.{Labelled}
 use Rattle.reckoning.specs.declared.labels.Labelled.the-variants.{Written, Refused}
 
@@ -25,16 +25,12 @@ abbrev pub outcomeOf : Labelled → Outcome (Unit {0})
 outcomeOf Written = replied tt
 outcomeOf (Refused refusal) = refused (numberOf refusal)
 
--- The rules of a question, after the network's own.
-abbrev pub questionRules : Network → ℕ → ℕ → List ℕ → List ℕ → List Rule
-questionRules N source departure labels predecessors =
-    (9 if not (ltb source (N .junctions)))
-    ∷ (10 if not (ltb departure day))
-    ∷ (11 if not (eqb (length labels) (N .junctions) && eqb (length predecessors) (N .junctions)))
-    ∷ []
+-- The rule on the buffers, after those of the question.
+abbrev pub bufferRules : Network → List ℕ → List ℕ → List Rule
+bufferRules N labels predecessors = (11 if not (eqb (length labels) (N .junctions) && eqb (length predecessors) (N .junctions))) ∷ []
 
 unfoldable pub labelsAnswer : Network → ℕ → ℕ → List ℕ → List ℕ → Outcome (Unit {0})
-labelsAnswer N source departure labels predecessors = firstBroken (networkRules N ++ questionRules N source departure labels predecessors) tt
+labelsAnswer N source departure labels predecessors = firstBroken (questionRules N source departure ++ bufferRules N labels predecessors) tt
 
 abbrev pub labelsAfter : Network → ℕ → ℕ → List ℕ → List ℕ → List ℕ
 labelsAfter N source departure labels predecessors = after (labelsAnswer N source departure labels predecessors) (labelsOf (netOf N) source departure) labels

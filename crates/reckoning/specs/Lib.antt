@@ -4,4 +4,5 @@ pub mod Following
 pub mod Labelling
 pub mod Labels
 pub mod NetworkCheck
+pub mod Question
 pub mod Route

@@ -10,11 +10,11 @@ use lib.Dec.{ltb, eqb}
 use lib.ListN.{length, take, drop}
 use Rattle.model.specs.Ticks.{day, never}
 use Rattle.model.specs.Network.{Network, Accepted, netOf}
-use Rattle.model.specs.NetworkRules.{networkRules}
 use Rattle.model.specs.Demands.{label}
 use Rattle.model.specs.Routes.{routeOf, Driven}
 use Rattle.model.specs.Refusals.{numberOf}
 use Rattle.model.specs.Rules.{Outcome, refused, replied, Rule, _if_, firstBroken, after}
+use Rattle.reckoning.specs.Question.{questionRules}
 use Rattle.reckoning.specs.declared.route.Routed.{Routed}
 use Rattle.reckoning.specs.declared.route.Routed.the-variants.{Arcs, Refused}
 
@@ -23,13 +23,9 @@ abbrev pub outcomeOf : Routed → Outcome ℕ
 outcomeOf (Arcs count) = replied count
 outcomeOf (Refused refusal) = refused (numberOf refusal)
 
--- The rules of a question, after the network's own; and those on what is then found.
-abbrev pub askedRules : Network → ℕ → ℕ → ℕ → List Rule
-askedRules N source departure destination =
-    (9 if not (ltb source (N .junctions)))
-    ∷ (10 if not (ltb departure day))
-    ∷ (12 if not (ltb destination (N .junctions)))
-    ∷ []
+-- The rule on the destination, after those of the question; and those on what is then found.
+abbrev pub destinationRules : Network → ℕ → List Rule
+destinationRules N destination = (12 if not (ltb destination (N .junctions))) ∷ []
 
 abbrev pub foundRules : Network → ℕ → ℕ → ℕ → List ℕ → List Rule
 foundRules N source departure destination arcs =
@@ -43,7 +39,7 @@ written route arcs = route ++ drop (length route) arcs
 
 unfoldable pub routeAnswer : Network → ℕ → ℕ → ℕ → List ℕ → Outcome ℕ
 routeAnswer N source departure destination arcs =
-    firstBroken (networkRules N ++ (askedRules N source departure destination ++ foundRules N source departure destination arcs)) (length (routeOf (netOf N) source departure destination))
+    firstBroken (questionRules N source departure ++ (destinationRules N destination ++ foundRules N source departure destination arcs)) (length (routeOf (netOf N) source departure destination))
 
 abbrev pub arcsAfter : Network → ℕ → ℕ → ℕ → List ℕ → List ℕ
 arcsAfter N source departure destination arcs =

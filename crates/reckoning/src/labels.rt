@@ -4,7 +4,7 @@ ghost use Rattle.model.specs.Network.{network};
 ghost use Rattle.reckoning.specs.Labels.{outcomeOf, labelsAnswer, labelsAfter, predecessorsAfter};
 use crate::labelling::label_all;
 use crate::network::NetworkCheck;
-use crate::network::network_check;
+use crate::question::question_check;
 use model::refusal::Refusal;
 use model::tick::Tick;
 
@@ -30,21 +30,17 @@ pub fn labels(
     ensures predecessors { λ _. ⌜ now (predecessors .exit) ≡ predecessorsAfter (network junctions (now (fences .entry)) (now (tails .entry)) (now (heads .entry)) (now (lengths .entry)) (now (speeds .entry))) source (departure .number) (now (labels .entry)) (now (predecessors .entry)) ⌝ }
 {
     let tick = departure.number;
-    if let NetworkCheck::Refused(refusal) = network_check(
+    if let NetworkCheck::Refused(refusal) = question_check(
         junctions,
         fences,
         tails,
         heads,
         lengths,
         speeds,
+        source,
+        tick,
     ) {
         return Labelled::Refused(refusal);
-    }
-    if junctions <= source {
-        return Labelled::Refused(Refusal::Source);
-    }
-    if Tick::DAY <= tick {
-        return Labelled::Refused(Refusal::Departure);
     }
     if labels.len() != junctions as usize {
         return Labelled::Refused(Refusal::BufferLength);

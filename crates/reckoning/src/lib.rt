@@ -5,4 +5,5 @@ mod check;
 mod labelling;
 pub mod labels;
 pub mod network;
+mod question;
 pub mod route;

@@ -9,7 +9,7 @@ ghost use Rattle.reckoning.specs.Labelling.{Labelable};
 ghost use Rattle.reckoning.specs.Route.{outcomeOf, routeAnswer, arcsAfter, written};
 use crate::labelling::label_all;
 use crate::network::NetworkCheck;
-use crate::network::network_check;
+use crate::question::question_check;
 use model::label::NO_ARC;
 use model::label::UNREACHED;
 use model::limit::MAX_JUNCTIONS;
@@ -120,21 +120,17 @@ pub fn route(
     ensures arcs { λ _. ⌜ now (arcs .exit) ≡ arcsAfter (network junctions (now (fences .entry)) (now (tails .entry)) (now (heads .entry)) (now (lengths .entry)) (now (speeds .entry))) source (departure .number) destination (now (arcs .entry)) ⌝ }
 {
     let tick = departure.number;
-    if let NetworkCheck::Refused(refusal) = network_check(
+    if let NetworkCheck::Refused(refusal) = question_check(
         junctions,
         fences,
         tails,
         heads,
         lengths,
         speeds,
+        source,
+        tick,
     ) {
         return Routed::Refused(refusal);
-    }
-    if junctions <= source {
-        return Routed::Refused(Refusal::Source);
-    }
-    if Tick::DAY <= tick {
-        return Routed::Refused(Refusal::Departure);
     }
     if junctions <= destination {
         return Routed::Refused(Refusal::Destination);

@@ -6,24 +6,16 @@ use mathlib.Core.Logic.{_⊎_, inl, inr}
 use lib.Dec.{leb, ltb, eqb}
 use borrow.Author.Tests.{leb-true, leb-false, ltb-true, ltb-false, eqb-true, eqb-false}
 
+cases : {Yes No : Type 0} (test : Bool) → (test ≡ true → Yes) → (test ≡ false → No) → ((test ≡ true) × Yes) ⊎ ((test ≡ false) × No)
+cases true when-true when-false = inl (refl, when-true refl)
+cases false when-true when-false = inr (refl, when-false refl)
+
 module _ (a b : ℕ) where
   pub leb-cases : ((leb a b ≡ true) × (a ≤ b)) ⊎ ((leb a b ≡ false) × (b < a))
-  leb-cases = go (leb a b) refl
-    where
-      go : (t : Bool) → leb a b ≡ t → ((leb a b ≡ true) × (a ≤ b)) ⊎ ((leb a b ≡ false) × (b < a))
-      go true e = inl (e, leb-true a b e)
-      go false e = inr (e, leb-false a b e)
+  leb-cases = cases (leb a b) (leb-true a b) (leb-false a b)
 
   pub ltb-cases : ((ltb a b ≡ true) × (a < b)) ⊎ ((ltb a b ≡ false) × (b ≤ a))
-  ltb-cases = go (ltb a b) refl
-    where
-      go : (t : Bool) → ltb a b ≡ t → ((ltb a b ≡ true) × (a < b)) ⊎ ((ltb a b ≡ false) × (b ≤ a))
-      go true e = inl (e, ltb-true a b e)
-      go false e = inr (e, ltb-false a b e)
+  ltb-cases = cases (ltb a b) (ltb-true a b) (ltb-false a b)
 
   pub eqb-cases : ((eqb a b ≡ true) × (a ≡ b)) ⊎ ((eqb a b ≡ false) × (a ≡ b → ⊥))
-  eqb-cases = go (eqb a b) refl
-    where
-      go : (t : Bool) → eqb a b ≡ t → ((eqb a b ≡ true) × (a ≡ b)) ⊎ ((eqb a b ≡ false) × (a ≡ b → ⊥))
-      go true e = inl (e, eqb-true a b e)
-      go false e = inr (e, eqb-false a b e)
+  eqb-cases = cases (eqb a b) (eqb-true a b) (eqb-false a b)

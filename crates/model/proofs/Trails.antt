@@ -98,11 +98,6 @@ module _ {N : Net} (sound : Sound N) {source : ℕ} {labels predecessors : List 
         distinct-length (N .junctions) (stops N source (reverse arcs)) (λ i m. trail-no-later trail i m .0) (trail-distinct trail) in
         omega (arith, length-stops N source (reverse arcs), length-reverse arcs)
 
-  pub trail-is-arcs : {j : ℕ} {arcs : List ℕ} → Trail N source labels predecessors j arcs → (a : ℕ) → Member a arcs → a < N .arcs
-  trail-is-arcs here a m = absurd m
-  trail-is-arcs (back j other at rest) a (inl e) = omega arith
-  trail-is-arcs (back j other at rest) a (inr m) = trail-is-arcs rest a m
-
 -- ---- Certified tables have a trail from every reached junction
 
 module _ {N : Net} (sound : Sound N) {source departure : ℕ} {labels predecessors : List ℕ} (certified : Certified N source departure labels predecessors) where

@@ -6,7 +6,7 @@ use mathlib.Core.List.{List, [], _∷_, _++_, map, reverse}
 use lib.Dec.{eqb}
 use lib.ListN.{length, getD}
 use Rattle.model.specs.Ticks.{last, day, never}
-use Rattle.model.specs.Walks.{Net, Sound}
+use Rattle.model.specs.Walks.{Net, Sound, Arrives}
 use Rattle.model.specs.Labels.{noArc, labelsOf, predecessorsOf}
 use Rattle.model.specs.Network.{Network, Accepted, netOf}
 use Rattle.model.specs.Demands.{label}
@@ -39,7 +39,13 @@ stops N source arcs = source ∷ map (N .head) arcs
 abbrev pub AllDiffer : List ℕ → Type 0
 AllDiffer xs = (i k : ℕ) → i < k → k < length xs → getD xs i 0 ≡ getD xs k 0 → ⊥
 
--- ---- What is proved of them, for every junction that is reached
+-- ---- What is proved of them
+
+-- Who drives a list of arcs goes a walk, so that nobody who does arrives before the label.
+abbrev pub DrivenIsWalk : Type 0
+DrivenIsWalk = (N : Net) (source departure : ℕ) (arcs : List ℕ) (j t : ℕ) → Driven N source departure arcs j t → Arrives N source departure j t
+
+-- ---- For every junction that is reached
 
 -- The route is driven, and arrives at the junction at its label.
 abbrev pub RouteAttains : Type 0

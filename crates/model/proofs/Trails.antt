@@ -6,7 +6,7 @@ use native.Mathlib.Nat.{le-refl}
 use native.Mathlib.Omega.{arith}
 use mathlib.Core.Path.{_≡_, refl, _∙_, ap, subst₂}
 use mathlib.Core.List.{List, [], _∷_, _++_, reverse, reverse-cons, map-append}
-use mathlib.Core.Logic.{inl, inr, ⊎-elim}
+use mathlib.Core.Logic.{⊎-elim}
 use lib.ListN.{length, getD, length-map, length-reverse}
 use borrow.Author.Tests.{eq-eqb, ne-eqb}
 use Rattle.model.specs.Ticks.{never}

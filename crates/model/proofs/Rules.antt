@@ -113,14 +113,14 @@ length-kept metres some fits = both-true (lt-ltb 0 metres some) (le-leb metres m
 
 -- ---- Tests that run through a table
 
-module _ (test : ℕ → Bool) (d : ℕ) where
-  pub every-at : (xs : List ℕ) → every test xs ≡ true → (k : ℕ) → k < length xs → test (getD xs k d) ≡ true
+module _ {A : Type 0} (test : A → Bool) (d : A) where
+  pub every-at : (xs : List A) → every test xs ≡ true → (k : ℕ) → k < length xs → test (getD xs k d) ≡ true
   unfolding every
   every-at [] e k h = absurd (omega arith)
   every-at (x ∷ xs) e zero h = true-both (test x) (every test xs) e .0
   every-at (x ∷ xs) e (suc k) h = every-at xs (true-both (test x) (every test xs) e .1) k (omega arith)
 
-  pub at-every : (xs : List ℕ) → ((k : ℕ) → k < length xs → test (getD xs k d) ≡ true) → every test xs ≡ true
+  pub at-every : (xs : List A) → ((k : ℕ) → k < length xs → test (getD xs k d) ≡ true) → every test xs ≡ true
   unfolding every
   at-every [] all = refl
   at-every (x ∷ xs) all = both-true (all 0 (omega arith)) (at-every xs (λ k h. all (suc k) (omega arith)))

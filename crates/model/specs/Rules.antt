@@ -3,9 +3,9 @@ use Prim.Native.Nat.{ℕ, _<_}
 use mathlib.Core.Path.{_≡_}
 use mathlib.Core.Logic.{_↔_}
 use mathlib.Core.Bool.{Bool, true, false, _&&_, cond}
-use mathlib.Core.List.{List, [], _∷_}
+use mathlib.Core.List.{List, [], _∷_, _++_}
 use lib.Dec.{leb, ltb, eqb}
-use lib.ListN.{length, getD, take}
+use lib.ListN.{length, getD, take, drop}
 use Rattle.model.specs.Ticks.{day}
 use Rattle.model.specs.Limits.{maxIntervals, maxLength, maxSpeed}
 
@@ -31,6 +31,10 @@ abbrev pub after : {Reply : Type 0} → Outcome Reply → List ℕ → List ℕ 
 after (refused number) written before = before
 after (replied reply) written before = written
 
+-- The entries at the table's start, and what stood behind them.
+abbrev pub written : List ℕ → List ℕ → List ℕ
+written entries table = entries ++ drop (length entries) table
+
 -- No rule of the list is broken.
 abbrev pub AllKept : List Rule → Type 0
 AllKept [] = Unit {0}
@@ -44,7 +48,7 @@ RefusedExactlyWhen = (Reply : Type 0) (rules : List Rule) (reply : Reply) (numbe
 
 -- ---- The tests
 
-unfoldable pub every : (ℕ → Bool) → List ℕ → Bool
+unfoldable pub every : {A : Type 0} → (A → Bool) → List A → Bool
 every test [] = true
 every test (x ∷ xs) = test x && every test xs
 

@@ -11,7 +11,7 @@ use lib.Seq.{take-suc, set-at, length-take-le}
 use Rattle.model.specs.Labels.{noArc}
 use Rattle.model.specs.Routes.{arcsBack}
 use Rattle.reckoning.specs.Following.{Leads, here, back}
-use Rattle.reckoning.specs.Route.{written}
+use Rattle.model.specs.Rules.{written}
 
 -- No more arcs are found than are allowed.
 at-most : (at : Bool) (a : ℕ) (before : List ℕ) (most : ℕ) → length before ≤ most → length (cond at [] (a ∷ before)) ≤ suc most

@@ -4,6 +4,7 @@ use Prim.Native.Nat.{ℕ, _≤_, _<_}
 use mathlib.Core.Path.{_≡_, sym, ap, _∙_}
 use mathlib.Core.Bool.{true, false, not}
 use mathlib.Core.List.{List, _++_, reverse}
+use mathlib.Core.Option.{Option, none, some}
 use native.Mathlib.Nat.{lt-of-not-le}
 use native.Mathlib.Omega.{arith}
 use lib.Dec.{ltb}
@@ -15,16 +16,16 @@ use Rattle.model.specs.Network.{Network, Accepted, netOf}
 use Rattle.model.specs.Demands.{label}
 use Rattle.model.specs.Labels.{noArc, labelsOf, predecessorsOf}
 use Rattle.model.specs.Routes.{routeOf}
-use Rattle.model.specs.Rules.{Outcome, refused, replied, Rule, _if_, firstBroken, AllKept}
+use Rattle.model.specs.Rules.{Outcome, refused, replied, Rule, _if_, firstBroken, AllKept, written}
 use Rattle.model.proofs.Networks.{accepted-sound}
 use Rattle.model.proofs.OnlyTables.{labels-certified}
 use Rattle.model.proofs.Routes.{allBack, route-reverses, whole, demand-2-of-route}
 use Rattle.model.proofs.Trails.{Trail, here, back}
 use Rattle.model.proofs.Rules.{kept-replies, replies-kept, refused-at, refused-before, kept-before, kept-append}
-use Rattle.reckoning.specs.Following.{backFrom, Leads, foundAnswer, foundAfter}
+use Rattle.reckoning.specs.Following.{backFrom, Leads, foundAnswer, foundArrival, foundAfter}
 use Rattle.reckoning.specs.Question.{questionRules, questionCheck}
 use Rattle.reckoning.proofs.QuestionRules.{Taken, kept-taken, taken-kept}
-use Rattle.reckoning.specs.Route.{destinationRules, foundRules, routeAnswer, arcsAfter, written, Routable, RouteRepliesWhenRoutable, Demand2OfRouteCall, RoomForEveryRoute}
+use Rattle.reckoning.specs.Route.{destinationRules, foundRules, routeAnswer, routeArrival, arcsAfter, Routable, RouteRepliesWhenRoutable, Demand2OfRouteCall, RoomForEveryRoute}
 use Rattle.reckoning.proofs.Turns.{getD-inside}
 
 -- ---- The way back
@@ -78,27 +79,32 @@ module _ (N : Network) (source departure destination : ℕ) (arcs : List ℕ) wh
   abbrev found : List Rule
   found = foundRules N source departure destination arcs
 
-  -- An answer together with what the list holds afterwards: of a question that is taken, and of any.
-  abbrev EndsFound : Outcome ℕ → List ℕ → Type 0
-  EndsFound outcome arcs′ = (outcome ≡ foundAnswer N source departure destination arcs) × (arcs′ ≡ foundAfter N source departure destination arcs)
+  -- An answer together with the arrival and with what the list holds afterwards: of a question that is taken, and of any.
+  abbrev EndsFound : Outcome ℕ → Option ℕ → List ℕ → Type 0
+  EndsFound outcome arrival arcs′ =
+      (outcome ≡ foundAnswer N source departure destination arcs)
+      × ((arrival ≡ foundArrival N source departure destination arcs) × (arcs′ ≡ foundAfter N source departure destination arcs))
 
-  abbrev Ends : Outcome ℕ → List ℕ → Type 0
-  Ends outcome arcs′ = (outcome ≡ routeAnswer N source departure destination arcs) × (arcs′ ≡ arcsAfter N source departure destination arcs)
+  abbrev Ends : Outcome ℕ → Option ℕ → List ℕ → Type 0
+  Ends outcome arrival arcs′ =
+      (outcome ≡ routeAnswer N source departure destination arcs)
+      × ((arrival ≡ routeArrival N source departure destination arcs) × (arcs′ ≡ arcsAfter N source departure destination arcs))
 
-  pub found-refuses : (k : ℕ) → AllKept (take k found) → (getD found k (0 if false)) .broken ≡ true → EndsFound (refused ((getD found k (0 if false)) .number)) arcs
+  pub found-refuses : (k : ℕ) → AllKept (take k found) → (getD found k (0 if false)) .broken ≡ true → EndsFound (refused ((getD found k (0 if false)) .number)) none arcs
   unfolding foundAnswer
-  found-refuses k kept broken = let e = refused-at found (length route) k kept broken in (e, rw (← e))
+  found-refuses k kept broken = let e = refused-at found (length route) k kept broken in (e, (rw (← e), rw (← e)))
 
-  pub found-written : {arcs′ : List ℕ} {count : ℕ} → AllKept found → count ≡ length route → arcs′ ≡ written route arcs → EndsFound (replied count) arcs′
+  pub found-written : {arcs′ : List ℕ} {count arrival : ℕ} → AllKept found → count ≡ length route → arrival ≡ label N source departure destination → arcs′ ≡ written route arcs →
+      EndsFound (replied count) (some arrival) arcs′
   unfolding foundAnswer
-  found-written kept same e =
+  found-written kept same at-label e =
       let answer = kept-replies found (length route) kept in
-      (ap replied same ∙ sym answer, rw answer e)
+      (ap replied same ∙ sym answer, (rw answer (ap some at-label), rw answer e))
 
-  ends-refused : {number : ℕ} → refused number ≡ routeAnswer N source departure destination arcs → Ends (refused number) arcs
-  ends-refused e = (e, rw (← e))
+  ends-refused : {number : ℕ} → refused number ≡ routeAnswer N source departure destination arcs → Ends (refused number) none arcs
+  ends-refused e = (e, (rw (← e), rw (← e)))
 
-  pub question-refuses : (number : ℕ) → refused number ≡ questionCheck N source departure → Ends (refused number) arcs
+  pub question-refuses : (number : ℕ) → refused number ≡ questionCheck N source departure → Ends (refused number) none arcs
   unfolding routeAnswer questionCheck
   question-refuses number e = ends-refused (sym (refused-before question (asked ++ found) tt (length route) number (sym e)))
 
@@ -108,14 +114,14 @@ module _ (N : Network) (source departure destination : ℕ) (arcs : List ℕ) wh
     unfolding routeAnswer
     asked-decides = kept-before question (asked ++ found) (length route) taken
 
-    pub destination-refuses : not (ltb destination (N .junctions)) ≡ true → Ends (refused 12) arcs
+    pub destination-refuses : not (ltb destination (N .junctions)) ≡ true → Ends (refused 12) none arcs
     destination-refuses broken = ends-refused (refused-at (asked ++ found) (length route) 0 tt broken ∙ sym asked-decides)
 
     found-decides : AllKept asked → routeAnswer N source departure destination arcs ≡ foundAnswer N source departure destination arcs
     unfolding foundAnswer
     found-decides kept = asked-decides ∙ kept-before asked found (length route) kept
 
-    pub found-ends : {outcome : Outcome ℕ} {arcs′ : List ℕ} → AllKept asked → EndsFound outcome arcs′ → Ends outcome arcs′
+    pub found-ends : {outcome : Outcome ℕ} {arrival : Option ℕ} {arcs′ : List ℕ} → AllKept asked → EndsFound outcome arrival arcs′ → Ends outcome arrival arcs′
     found-ends kept e = rw (found-decides kept) e
 
   kept-routable : AllKept question → AllKept asked → AllKept found → Routable N source departure destination arcs

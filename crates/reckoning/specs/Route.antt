@@ -6,22 +6,28 @@ use mathlib.Core.Path.{_≡_}
 use mathlib.Core.Bool.{not}
 use mathlib.Core.List.{List, [], _∷_, _++_}
 use mathlib.Core.Logic.{_↔_}
+use mathlib.Core.Option.{Option, none, some}
 use lib.Dec.{ltb, eqb}
-use lib.ListN.{length, take, drop}
+use lib.ListN.{length, take}
 use Rattle.model.specs.Ticks.{day, never}
 use Rattle.model.specs.Network.{Network, Accepted, netOf}
 use Rattle.model.specs.Demands.{label}
 use Rattle.model.specs.Routes.{routeOf, Driven}
 use Rattle.model.specs.Refusals.{numberOf}
-use Rattle.model.specs.Rules.{Outcome, refused, replied, Rule, _if_, firstBroken, after}
+use Rattle.model.specs.Rules.{Outcome, refused, replied, Rule, _if_, firstBroken, after, written}
 use Rattle.reckoning.specs.Question.{questionRules}
 use Rattle.reckoning.specs.declared.route.Routed.{Routed}
 use Rattle.reckoning.specs.declared.route.Routed.the-variants.{Arcs, Refused}
 
 -- The answer's number and value.
 abbrev pub outcomeOf : Routed → Outcome ℕ
-outcomeOf (Arcs count) = replied count
+outcomeOf (Arcs count arrival) = replied count
 outcomeOf (Refused refusal) = refused (numberOf refusal)
+
+-- What the answer says of the arrival: a refusal says nothing.
+abbrev pub arrivalOf : Routed → Option ℕ
+arrivalOf (Arcs count arrival) = some arrival
+arrivalOf (Refused refusal) = none
 
 -- The rule on the destination, after those of the question; and those on what is then found.
 abbrev pub destinationRules : Network → ℕ → List Rule
@@ -33,13 +39,17 @@ foundRules N source departure destination arcs =
     ∷ (14 if ltb (length arcs) (length (routeOf (netOf N) source departure destination)))
     ∷ []
 
--- The route at the list's start, and what stood behind it.
-abbrev pub written : List ℕ → List ℕ → List ℕ
-written route arcs = route ++ drop (length route) arcs
-
 unfoldable pub routeAnswer : Network → ℕ → ℕ → ℕ → List ℕ → Outcome ℕ
 routeAnswer N source departure destination arcs =
     firstBroken (questionRules N source departure ++ (destinationRules N destination ++ foundRules N source departure destination arcs)) (length (routeOf (netOf N) source departure destination))
+
+-- Where the call replies, the destination's label.
+abbrev pub withReply : Outcome ℕ → ℕ → Option ℕ
+withReply (refused number) arrival = none
+withReply (replied count) arrival = some arrival
+
+abbrev pub routeArrival : Network → ℕ → ℕ → ℕ → List ℕ → Option ℕ
+routeArrival N source departure destination arcs = withReply (routeAnswer N source departure destination arcs) (label N source departure destination)
 
 abbrev pub arcsAfter : Network → ℕ → ℕ → ℕ → List ℕ → List ℕ
 arcsAfter N source departure destination arcs =

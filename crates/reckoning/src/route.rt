@@ -4,9 +4,10 @@ ghost use Prim.Native.Nat.{_≤_, _<_};
 ghost use lib.ListN.{length};
 ghost use mathlib.Core.List.{reverse};
 ghost use Rattle.model.specs.Network.{network};
-ghost use Rattle.reckoning.specs.Following.{backFrom, Leads, foundAnswer, foundAfter};
+ghost use Rattle.model.specs.Rules.{written};
+ghost use Rattle.reckoning.specs.Following.{backFrom, Leads, foundAnswer, foundArrival, foundAfter};
 ghost use Rattle.reckoning.specs.Labelling.{Labelable};
-ghost use Rattle.reckoning.specs.Route.{outcomeOf, routeAnswer, arcsAfter, written};
+ghost use Rattle.reckoning.specs.Route.{outcomeOf, arrivalOf, routeAnswer, routeArrival, arcsAfter};
 use crate::labelling::label_all;
 use crate::network::NetworkCheck;
 use crate::question::question_check;
@@ -17,7 +18,8 @@ use model::refusal::Refusal;
 use model::tick::Tick;
 
 pub enum Routed {
-    Arcs(u32),
+    // The number of arcs, and the destination's label.
+    Arcs { count: u32, arrival: u32 },
     Refused(Refusal),
 }
 
@@ -78,6 +80,7 @@ fn reckon_route(
     requires { ⌜ Labelable (network junctions (now fences) (now tails) (now heads) (now lengths) (now speeds)) source tick (now labels) (now predecessors) ⌝ }
     requires { ⌜ destination < junctions ⌝ }
     ensures answer { λ r. ⌜ outcomeOf r ≡ foundAnswer (network junctions (now (fences .entry)) (now (tails .entry)) (now (heads .entry)) (now (lengths .entry)) (now (speeds .entry))) source tick destination (now (arcs .entry)) ⌝ }
+    ensures arrival { λ r. ⌜ arrivalOf r ≡ foundArrival (network junctions (now (fences .entry)) (now (tails .entry)) (now (heads .entry)) (now (lengths .entry)) (now (speeds .entry))) source tick destination (now (arcs .entry)) ⌝ }
     ensures arcs { λ _. ⌜ now (arcs .exit) ≡ foundAfter (network junctions (now (fences .entry)) (now (tails .entry)) (now (heads .entry)) (now (lengths .entry)) (now (speeds .entry))) source tick destination (now (arcs .entry)) ⌝ }
 {
     label_all(
@@ -92,7 +95,8 @@ fn reckon_route(
         labels,
         predecessors,
     );
-    if labels[destination] == UNREACHED {
+    let arrival = labels[destination];
+    if arrival == UNREACHED {
         return Routed::Refused(Refusal::Unreached);
     }
     let count = count_arcs(tails, predecessors, source, destination);
@@ -100,7 +104,10 @@ fn reckon_route(
         return Routed::Refused(Refusal::ArcListLength);
     }
     write_arcs(tails, predecessors, source, destination, count, arcs);
-    Routed::Arcs(count as u32)
+    Routed::Arcs {
+        count: count as u32,
+        arrival,
+    }
 }
 
 // The labels are reckoned once, into tables of the function's own.
@@ -117,6 +124,7 @@ pub fn route(
     arcs: &mut [u16],
 ) -> Routed
     ensures answer { λ r. ⌜ outcomeOf r ≡ routeAnswer (network junctions (now (fences .entry)) (now (tails .entry)) (now (heads .entry)) (now (lengths .entry)) (now (speeds .entry))) source (departure .number) destination (now (arcs .entry)) ⌝ }
+    ensures arrival { λ r. ⌜ arrivalOf r ≡ routeArrival (network junctions (now (fences .entry)) (now (tails .entry)) (now (heads .entry)) (now (lengths .entry)) (now (speeds .entry))) source (departure .number) destination (now (arcs .entry)) ⌝ }
     ensures arcs { λ _. ⌜ now (arcs .exit) ≡ arcsAfter (network junctions (now (fences .entry)) (now (tails .entry)) (now (heads .entry)) (now (lengths .entry)) (now (speeds .entry))) source (departure .number) destination (now (arcs .entry)) ⌝ }
 {
     let tick = departure.number;

@@ -54,7 +54,7 @@ fn print_entry(entry: u16) {
 
 fn print_route(answer: Routed) {
     match answer {
-        Routed::Arcs(count) => {
+        Routed::Arcs { count, arrival: _ } => {
             io::write_all(STDOUT_FILENO, b" arcs ");
             io::print_decimal(STDOUT_FILENO, count as u64);
         }

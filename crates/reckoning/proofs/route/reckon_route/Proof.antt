@@ -14,7 +14,7 @@ use Rattle.model.specs.Demands.{label}
 use Rattle.model.specs.Routes.{routeOf}
 use Rattle.model.proofs.Routes.{demand-2-of-route}
 use Rattle.reckoning.specs.Following.{backFrom, Leads}
-use Rattle.reckoning.specs.Route.{written}
+use Rattle.model.specs.Rules.{written}
 use Rattle.reckoning.proofs.RouteRules.{route-is, label-read, predecessors-lead, found-refuses, found-written}
 use Rattle.reckoning.proofs.route.reckon_route.Statement.{statement}
 use Rattle.reckoning.proofs.route.reckon_route.Tie as tie
@@ -92,15 +92,15 @@ write-arcs-requires c κs =
     let count = c .before .before .before in
     (lead (else1 count), (count .count-arcs .ensures, c .before .before .if2 .left))
 
-cast-t21 : tie.Need-cast-t21
-cast-t21 c =
+cast-t22 : tie.Need-cast-t22
+cast-t22 c =
     let count = c .before .before .before .before .before .before in
     omega (arith, counted count, short (else1 count), asked (else1 count .before) .pre .0 .accepted .junctions-fit)
 
 returns-3 : tie.Need-returns-3
 returns-3 c =
     let count = c .before .before .before .before .before .before in
-    found-written _ _ _ _ _ (ne-eqb _ _ (reached (else1 count)), (le-ltb _ _ (rw (counted count) at (c .before .before .before .before .before .if2 .left)), tt)) (counted count)
+    found-written _ _ _ _ _ (ne-eqb _ _ (reached (else1 count)), (le-ltb _ _ (rw (counted count) at (c .before .before .before .before .before .if2 .left)), tt)) (counted count) (sym (read (else1 count .before)))
     (c .before .before .write-arcs .ensures ∙ ap (λ r. written r (now (asked (else1 count .before) .args .arcs))) (back-is-route (else1 count .before)))
 
 pub reckon-route-spec : {M : Type 1} → statement M
@@ -118,7 +118,7 @@ reckon-route-spec =
     (λ c. search needs)
     returns-2
     write-arcs-requires
-    cast-t21
+    cast-t22
     (λ c. search needs)
     (λ c. search needs)
     (λ c. search needs)

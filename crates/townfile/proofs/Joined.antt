@@ -1,0 +1,78 @@
+-- A text's lines: lines without a line feed inside are the pieces of the text that they make, with an empty piece behind the last;
+-- and a text whose last piece is empty is made of the pieces before it.
+use Prim.Native.Nat.{ℕ, suc, _+_, _<_}
+use mathlib.Core.Path.{_≡_, refl, sym, ap, _∙_}
+use mathlib.Core.Bool.{cond}
+use mathlib.Core.List.{List, [], _∷_, _++_}
+use mathlib.Core.Logic.{inl, inr}
+use native.Mathlib.Omega.{arith}
+use lib.Dec.{eqb}
+use lib.ListN.{length, getD, length-append, List·getD-append}
+use lib.Seq.{getD-append-add}
+use borrow.Author.Tests.{ne-eqb}
+use Rattle.model.proofs.Tests.{eqb-cases}
+use Rattle.townfile.specs.Bytes.{lineFeed, onFirst, pieces}
+use Rattle.townfile.specs.Grammar.{Bytes, Each, joined}
+use Rattle.townfile.proofs.Pieces.{pieces-next, pieces-behind}
+
+-- No line feed in a line.
+abbrev pub Unbroken : List ℕ → Type 0
+Unbroken line = (i : ℕ) → i < length line → getD line i 0 ≡ lineFeed → ⊥
+
+-- ---- From lines to pieces
+
+pieces-of-line : (line rest : List ℕ) → Unbroken line → pieces lineFeed (line ++ (lineFeed ∷ rest)) ≡ line ∷ pieces lineFeed rest
+unfolding pieces onFirst
+pieces-of-line [] rest unbroken = pieces-behind lineFeed rest
+pieces-of-line (byte ∷ line) rest unbroken =
+    rw (ne-eqb byte lineFeed (unbroken 0 (omega arith)), pieces-of-line line rest (λ i h. unbroken (suc i) (omega arith)))
+
+pub joined-pieces : (lines : List (List ℕ)) → Each Unbroken lines → pieces lineFeed (joined lines) ≡ lines ++ ([] ∷ [])
+unfolding joined Each pieces
+joined-pieces [] unbroken = refl
+joined-pieces (line ∷ lines) unbroken = rw (pieces-of-line line (joined lines) (unbroken .0), joined-pieces lines (unbroken .1))
+
+-- ---- From pieces to lines
+
+-- The text of some pieces.
+glued : List (List ℕ) → List ℕ
+glued [] = []
+glued (piece ∷ []) = piece
+glued (piece ∷ next ∷ pieces) = piece ++ (lineFeed ∷ glued (next ∷ pieces))
+
+glued-on-first : (byte : ℕ) (piece : List ℕ) (more : List (List ℕ)) → glued ((byte ∷ piece) ∷ more) ≡ byte ∷ glued (piece ∷ more)
+unfolding glued
+glued-on-first byte piece [] = refl
+glued-on-first byte piece (next ∷ more) = refl
+
+glued-next : (byte : ℕ) (bytes first : List ℕ) (more : List (List ℕ)) → glued (first ∷ more) ≡ bytes →
+    glued (cond (eqb byte lineFeed) ([] ∷ first ∷ more) ((byte ∷ first) ∷ more)) ≡ byte ∷ bytes
+unfolding glued
+glued-next byte bytes first more e = elim (eqb-cases byte lineFeed) [
+  | inl here ↦ rw (here .0, here .1, e)
+  | inr other ↦ rw (other .0, glued-on-first byte first more, e)
+]
+
+glued-pieces : (text : List ℕ) → glued (pieces lineFeed text) ≡ text
+unfolding pieces onFirst glued
+glued-pieces [] = refl
+glued-pieces (byte ∷ bytes) = rw (pieces-next lineFeed bytes) (glued-next byte bytes _ _ (rw (pieces-next lineFeed bytes) at (glued-pieces bytes)))
+
+glued-lines : (lines : List (List ℕ)) → glued (lines ++ ([] ∷ [])) ≡ joined lines
+unfolding joined glued
+glued-lines [] = refl
+glued-lines (line ∷ []) = refl
+glued-lines (line ∷ next ∷ lines) = rw (glued-lines (next ∷ lines))
+
+pub pieces-joined : (text : List ℕ) (lines : List (List ℕ)) → pieces lineFeed text ≡ lines ++ ([] ∷ []) → text ≡ joined lines
+pieces-joined text lines e = sym (glued-pieces text) ∙ ap glued e ∙ glued-lines lines
+
+-- ---- The bytes of lines
+
+pub joined-bytes : (lines : List (List ℕ)) → Bytes (joined lines) → Each Bytes lines
+unfolding joined Each
+joined-bytes [] bytes = tt
+joined-bytes (line ∷ lines) bytes = (
+  (λ i h. rw (List·getD-append line (lineFeed ∷ joined lines) 0 i h) at (bytes i (rw length-append (omega arith)))),
+  joined-bytes lines (λ i h. rw (getD-append-add line (lineFeed ∷ joined lines) (suc i) 0) at (bytes (length line + suc i) (rw length-append (omega arith)))),
+)

@@ -1,0 +1,83 @@
+-- "Load (text; lent tables). 20 [to 27]; 28, a lent table too short, at line 0. Otherwise the junction, interval and arc counts; each
+-- table starts with its entries (the speeds arc by arc) and is unchanged after them."
+use Prim.Native.Nat.{ℕ, _*_, _≤_}
+use mathlib.Core.Path.{_≡_}
+use mathlib.Core.Bool.{Bool, cond, _||_}
+use mathlib.Core.Logic.{_↔_}
+use mathlib.Core.List.{List}
+use lib.Dec.{ltb}
+use lib.ListN.{length}
+use Rattle.model.specs.Network.{Network, arcs, intervals}
+use Rattle.model.specs.Rules.{written}
+use Rattle.townfile.specs.Grammar.{Bytes, Town, Describes, networkOf}
+use Rattle.townfile.specs.FirstFault.{Reading, refusedAt, accepted, firstFault}
+use Rattle.townfile.specs.Tables.{townOf}
+use Rattle.townfile.specs.declared.progress.Progress.{Progress}
+
+pub record Counts : Type 0 where
+  pub junctions : ℕ
+  pub intervals : ℕ
+  pub arcs : ℕ
+
+abbrev pub counts : ℕ → ℕ → ℕ → Counts
+counts junctions intervals arcs = record { junctions = junctions; intervals = intervals; arcs = arcs }
+
+pub record Tables : Type 0 where
+  pub fences : List ℕ
+  pub tails : List ℕ
+  pub heads : List ℕ
+  pub lengths : List ℕ
+  pub speeds : List ℕ
+
+abbrev pub tables : List ℕ → List ℕ → List ℕ → List ℕ → List ℕ → Tables
+tables fences tails heads lengths speeds = record { fences = fences; tails = tails; heads = heads; lengths = lengths; speeds = speeds }
+
+abbrev pub countsOf : Progress → Counts
+countsOf p = counts (p .junctions) (p .intervals) (p .arcs)
+
+abbrev pub tooShort : Counts → Tables → Bool
+tooShort asked lent =
+    ltb (length (lent .fences)) (asked .intervals)
+    || ltb (length (lent .tails)) (asked .arcs)
+    || ltb (length (lent .heads)) (asked .arcs)
+    || ltb (length (lent .lengths)) (asked .arcs)
+    || ltb (length (lent .speeds)) (asked .arcs * asked .intervals)
+
+abbrev pub intoTables : Reading Progress → Tables → Reading Counts
+intoTables (refusedAt number line) lent = refusedAt number line
+intoTables (accepted p) lent = cond (tooShort (countsOf p) lent) (refusedAt 28 0) (accepted (countsOf p))
+
+unfoldable pub loadAnswer : List ℕ → Tables → Reading Counts
+loadAnswer text lent = intoTables (firstFault text) lent
+
+-- The lent tables with a network's entries at their start.
+abbrev pub holding : Network → Tables → Tables
+holding N lent =
+    tables (written (N .fences) (lent .fences)) (written (N .tails) (lent .tails)) (written (N .heads) (lent .heads)) (written (N .lengths) (lent .lengths)) (written (N .speeds) (lent .speeds))
+
+-- What the lent tables hold afterwards: where the call is refused, what they held before.
+abbrev pub afterReading : Reading Counts → Tables → Tables → Tables
+afterReading (refusedAt number line) after before = before
+afterReading (accepted reply) after before = after
+
+unfoldable pub tablesAfter : List ℕ → Tables → Tables
+tablesAfter text lent = afterReading (loadAnswer text lent) (holding (networkOf (townOf text)) lent) lent
+
+-- ---- What is proved of it
+
+pub record LongEnough (N : Network) (lent : Tables) : Type 0 where
+  pub fences-long : intervals N ≤ length (lent .fences)
+  pub tails-long : arcs N ≤ length (lent .tails)
+  pub heads-long : arcs N ≤ length (lent .heads)
+  pub lengths-long : arcs N ≤ length (lent .lengths)
+  pub speeds-long : arcs N * intervals N ≤ length (lent .speeds)
+
+abbrev pub countsOfTown : Town → Counts
+countsOfTown T = counts (T .junctions) (intervals (networkOf T)) (arcs (networkOf T))
+
+-- With tables long enough Load accepts a text exactly where it describes a town; it replies that town's counts, and the tables then
+-- hold that town.
+abbrev pub LoadAcceptsWhenDescribed : Type 0
+LoadAcceptsWhenDescribed = (text : List ℕ) → Bytes text → (lent : Tables) (reply : Counts) →
+    (loadAnswer text lent ≡ accepted reply)
+    ↔ ((T : Town) × Describes text T × LongEnough (networkOf T) lent × (reply ≡ countsOfTown T) × (tablesAfter text lent ≡ holding (networkOf T) lent))

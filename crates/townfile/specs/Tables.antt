@@ -1,0 +1,64 @@
+-- The town that a text's lines give, field by field, and the tables it fills.
+use Prim.Native.Nat.{ℕ, _≤_}
+use mathlib.Core.Path.{_≡_}
+use mathlib.Core.Bool.{cond}
+use mathlib.Core.Logic.{_↔_}
+use mathlib.Core.List.{List, [], _∷_, map, flatten}
+use lib.Dec.{eqb}
+use lib.ListN.{length, getD, drop}
+use Rattle.model.specs.Rules.{replied}
+use Rattle.model.specs.NetworkRules.{networkCheck}
+use Rattle.townfile.specs.Bytes.{lineFeed, pieces}
+use Rattle.townfile.specs.Numbers.{decimal}
+use Rattle.townfile.specs.Lines.{markTN, markFN, markJN, markAR, markOf, numbersOf, numberField, nameField}
+use Rattle.townfile.specs.Grammar.{Bytes, Named, Arc, Town, Describes, networkOf, joined, Commented}
+use Rattle.townfile.specs.FirstFault.{accepted, firstFault}
+use Rattle.townfile.specs.declared.progress.Progress.{Progress}
+
+-- The lines that bear a mark.
+unfoldable pub marked : ℕ → List (List ℕ) → List (List ℕ)
+marked mark [] = []
+marked mark (line ∷ lines) = let rest = marked mark lines in cond (eqb (markOf line) mark) (line ∷ rest) rest
+
+abbrev pub namedOf : List ℕ → Named
+namedOf line = record { number = decimal (numberField line); name = nameField line }
+
+abbrev pub arcOf : List ℕ → Arc
+arcOf line = record { tail = getD (numbersOf line) 0 0; head = getD (numbersOf line) 1 0; metres = getD (numbersOf line) 2 0; speeds = drop 3 (numbersOf line) }
+
+-- The numbers of the `TN` line.
+abbrev pub townIn : List (List ℕ) → List ℕ
+townIn lines = flatten (map numbersOf (marked markTN lines))
+
+abbrev pub fencesIn : List (List ℕ) → List ℕ
+fencesIn lines = flatten (map numbersOf (marked markFN lines))
+
+abbrev pub namesIn : List (List ℕ) → List Named
+namesIn lines = map namedOf (marked markJN lines)
+
+abbrev pub arcsIn : List (List ℕ) → List Arc
+arcsIn lines = map arcOf (marked markAR lines)
+
+unfoldable pub townOf : List ℕ → Town
+townOf text = let lines = pieces lineFeed text in
+    record { junctions = getD (townIn lines) 0 0; fences = fencesIn lines; names = namesIn lines; arcs = arcsIn lines }
+
+-- ---- What is proved of it
+
+-- A text describes a town exactly where it has no fault and that town is the one its lines give.
+abbrev pub DescribesWhenFaultless : Type 0
+DescribesWhenFaultless = (text : List ℕ) → Bytes text → (T : Town) →
+    Describes text T ↔ (((p : Progress) × (firstFault text ≡ accepted p)) × (townOf text ≡ T))
+
+-- A text describes at most one town.
+abbrev pub OneTown : Type 0
+OneTown = (text : List ℕ) (T T′ : Town) → Describes text T → Describes text T′ → T ≡ T′
+
+-- A text and the same text with comments added anywhere, within the limit, describe the same town.
+abbrev pub CommentsChangeNothing : Type 0
+CommentsChangeNothing = (lines more : List (List ℕ)) → Commented lines more → length (joined more) ≤ 65536 → (T : Town) →
+    Describes (joined lines) T ↔ Describes (joined more) T
+
+-- Network check accepts a described town.
+abbrev pub DescribedIsAccepted : Type 0
+DescribedIsAccepted = (text : List ℕ) (T : Town) → Describes text T → networkCheck (networkOf T) ≡ replied tt

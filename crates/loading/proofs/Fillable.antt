@@ -1,0 +1,170 @@
+-- A text without fault fills tables that are long enough: each of its lines keeps the form and the limits that the progress at that
+-- line asks, and once the town's line is read the intervals are those of the end.
+use Prim.Native.Nat.{ℕ, suc, _+_, _≤_}
+use mathlib.Core.Path.{_≡_, refl, sym, _∙_}
+use mathlib.Core.Bool.{Bool, true, false, cond, _&&_}
+use mathlib.Core.List.{List, [], _∷_}
+use native.Mathlib.Omega.{arith}
+use lib.Dec.{leb, ltb, eqb}
+use lib.ListN.{length, getD, drop}
+use borrow.Author.Tests.{not-false, ltb-true, leb-true, eqb-true, ne-eqb}
+use Rattle.model.specs.Limits.{maxArcs, maxIntervals, maxJunctions}
+use Rattle.model.specs.NetworkRules.{junctionsKeep}
+use Rattle.model.specs.Rules.{Outcome, refused, replied, every, lengthKeeps, speedKeeps}
+use Rattle.model.proofs.Rules.{true-both, kept-replies, replies-kept}
+use Rattle.townfile.specs.Bytes.{lineFeed, pieces}
+use Rattle.townfile.specs.Grammar.{Bytes, Each}
+use Rattle.townfile.specs.Lines.{markTN, markFN, markAR, markOf, known, inTurn, markAlone, numbersOf, numbersKeep, formKeeps, endsDiffer, valuesKeep, lineRules, lineRead, lineAnswer}
+use Rattle.townfile.specs.FirstFault.{Reading, refusedAt, accepted, start, atEnd, onward, linesFrom, firstFault}
+use Rattle.townfile.specs.Tables.{marked}
+use Rattle.townfile.specs.Load.{Tables, countsOf, tooShort, loadAnswer}
+use Rattle.townfile.specs.declared.progress.Progress.{Progress}
+use Rattle.townfile.proofs.Marks.{Known, known-mark, town-mark, fences-mark, junction-mark, arc-mark, comment-mark}
+use Rattle.townfile.proofs.Described.{described-town}
+use Rattle.townfile.proofs.Loaded.{load-accepts-when-described}
+use Rattle.loading.specs.Filling.{FencesLine, ArcLine, Fillable}
+
+-- ---- One line
+
+-- A progress at which the town's line is read.
+abbrev Settled : Progress → ℕ → Type 0
+Settled p intervals = 1 ≤ p .turn → p .intervals ≡ intervals
+
+-- Once the town's line is read, the junctions keep their limit.
+abbrev Limited : Progress → Type 0
+Limited p = 1 ≤ p .turn → p .junctions ≤ maxJunctions
+
+record LineKeeps (p : Progress) (line : List ℕ) : Type 0 where
+  marked-so : Known (markOf line)
+  in-turn : inTurn (p .turn) (markOf line) ≡ true
+  form : formKeeps p line ≡ true
+  values : valuesKeep p line ≡ true
+
+line-keeps : (p q : Progress) (line : List ℕ) → lineAnswer p line ≡ replied q → LineKeeps p line × (q ≡ lineRead p line)
+unfolding lineAnswer
+line-keeps p q line e =
+    let kept = replies-kept (lineRules p line) (lineRead p line) q e in
+    let same : replied q ≡ replied (lineRead p line) = sym e ∙ kept-replies (lineRules p line) (lineRead p line) kept in (
+      record {
+        marked-so = known-mark (markOf line) (not-false (known (markOf line)) (kept .1 .0));
+        in-turn = not-false (inTurn (p .turn) (markOf line)) (kept .1 .1 .0);
+        form = not-false (formKeeps p line) (kept .1 .1 .1 .0);
+        values = not-false (valuesKeep p line) (kept .1 .1 .1 .1 .0);
+      },
+      cc,
+    )
+
+record LinesFill (p : Progress) (intervals : ℕ) (lines : List (List ℕ)) : Type 0 where
+  settled : Settled p intervals
+  fences-fill : Each (FencesLine intervals) (marked markFN lines)
+  arcs-fill : Each (ArcLine intervals) (marked markAR lines)
+
+module _ (p : Progress) (line : List ℕ) (keeps : LineKeeps p line) where
+  fences-line : markOf line ≡ markFN → FencesLine (p .intervals) line
+  unfolding formKeeps
+  fences-line is =
+      let form = true-both (markAlone line) (numbersKeep (p .intervals) line) (rw is at (keeps .form)) in
+      record { alone = form .0; form = form .1 }
+
+  arc-line : Limited p → 1 ≤ p .turn → markOf line ≡ markAR → ArcLine (p .intervals) line
+  unfolding formKeeps valuesKeep
+  arc-line limited turn is =
+      let form = true-both (markAlone line) (numbersKeep (3 + p .intervals) line) (rw is at (keeps .form)) in
+      let numbers = numbersOf line in
+      let tail = getD numbers 0 0 in
+      let head = getD numbers 1 0 in
+      let few = true-both (endsDiffer (p .junctions) tail head && lengthKeeps (getD numbers 2 0) && every speedKeeps (drop 3 numbers)) (ltb (p .arcs) maxArcs) (rw is at (keeps .values)) in
+      let speeds = true-both (endsDiffer (p .junctions) tail head && lengthKeeps (getD numbers 2 0)) (every speedKeeps (drop 3 numbers)) (few .0) in
+      let ends = true-both (ltb tail (p .junctions) && ltb head (p .junctions)) _ (true-both (endsDiffer (p .junctions) tail head) (lengthKeeps (getD numbers 2 0)) (speeds .0) .0) in
+      let both = true-both (ltb tail (p .junctions)) (ltb head (p .junctions)) (ends .0) in
+      record {
+        alone = form .0;
+        form = form .1;
+        tail-fits = omega (arith, limited turn, ltb-true tail (p .junctions) (both .0));
+        head-fits = omega (arith, limited turn, ltb-true head (p .junctions) (both .1));
+        speeds-fit = speeds .1;
+      }
+
+  town-limited : markOf line ≡ markTN → getD (numbersOf line) 0 0 ≤ maxJunctions
+  unfolding valuesKeep
+  town-limited is =
+      let junctions = getD (numbersOf line) 0 0 in
+      let intervals = getD (numbersOf line) 1 0 in
+      let some = true-both (junctionsKeep junctions && ltb 0 intervals) (leb intervals maxIntervals) (rw is at (keeps .values)) in
+      leb-true junctions maxJunctions (true-both (ltb 0 junctions) (leb junctions maxJunctions) (true-both (junctionsKeep junctions) (ltb 0 intervals) (some .0) .0) .1)
+
+  -- The line in front of others.
+  with-line : (intervals : ℕ) (lines : List (List ℕ)) → Limited p → (Limited (lineRead p line) → LinesFill (lineRead p line) intervals lines) → LinesFill p intervals (line ∷ lines)
+  unfolding lineRead valuesKeep marked Each
+  with-line intervals lines limited later = go (keeps .marked-so)
+    where
+      go : Known (markOf line) → LinesFill p intervals (line ∷ lines)
+      go (town-mark is) =
+          let turn = eqb-true (p .turn) 0 (rw is at (keeps .in-turn)) in
+          let rest = (rw is at later) (λ h. town-limited is) in
+          record { settled = λ h. absurd (omega arith); fences-fill = rw is (rest .fences-fill); arcs-fill = rw is (rest .arcs-fill) }
+      go (fences-mark is) =
+          let turn = eqb-true (p .turn) 1 (rw is at (keeps .in-turn)) in
+          let rest = (rw is at later) (λ h. limited (omega arith)) in
+          let same = rest .settled (omega arith) in
+          record { settled = λ h. same; fences-fill = rw is (rw same at (fences-line is), rest .fences-fill); arcs-fill = rw is (rest .arcs-fill) }
+      go (junction-mark is) =
+          let rest = (rw is at later) limited in
+          record { settled = rest .settled; fences-fill = rw is (rest .fences-fill); arcs-fill = rw is (rest .arcs-fill) }
+      go (arc-mark is) =
+          let turn = leb-true 2 (p .turn) (rw is at (keeps .in-turn)) in
+          let rest = (rw is at later) (λ h. limited (omega arith)) in
+          let same = rest .settled (omega arith) in
+          record { settled = λ h. same; fences-fill = rw is (rest .fences-fill); arcs-fill = rw is (rw same at (arc-line limited (omega arith) is), rest .arcs-fill) }
+      go (comment-mark is) =
+          let rest = (rw is at later) limited in
+          record { settled = rest .settled; fences-fill = rw is (rest .fences-fill); arcs-fill = rw is (rest .arcs-fill) }
+
+-- ---- The lines
+
+not-refused : (test : Bool) (fault line : ℕ) (rest : Reading Progress) (p : Progress) → cond test (refusedAt fault line) rest ≡ accepted p → rest ≡ accepted p
+not-refused true fault line rest p e = absurd (let z : _≡_ {A = ℕ} 0 1 = cc in omega arith)
+not-refused false fault line rest p e = e
+
+ended : (p q : Progress) (number : ℕ) → atEnd p number ≡ accepted q → p .intervals ≡ q .intervals
+ended p q number e = let same : accepted p ≡ accepted q = not-refused (ltb (p .turn) 2) 27 number (accepted p) q e in cc
+
+lines-fill : (p q : Progress) (number : ℕ) (lines : List (List ℕ)) → Limited p → linesFrom p number lines ≡ accepted q → LinesFill p (q .intervals) lines
+unfolding linesFrom marked markOf Each
+lines-fill p q number [] limited e = record { settled = λ h. ended p q number e; fences-fill = tt; arcs-fill = tt }
+lines-fill p q number ([] ∷ []) limited e = record { settled = λ h. ended p q number e; fences-fill = tt; arcs-fill = tt }
+lines-fill p q number ((byte ∷ line) ∷ []) limited e =
+    let more : eqb (length (byte ∷ line)) 0 ≡ false = ne-eqb (length (byte ∷ line)) 0 (λ z. omega arith) in
+    let refusal : refusedAt 21 number ≡ accepted q = rw more at e in
+    absurd (let z : _≡_ {A = ℕ} 0 1 = cc in omega arith)
+lines-fill p q number (line ∷ next ∷ lines) limited e = go (lineAnswer p line) refl (λ p′. lines-fill p′ q (suc number) (next ∷ lines)) e
+  where
+    go : (answer : Outcome Progress) → lineAnswer p line ≡ answer →
+        ((p′ : Progress) → Limited p′ → linesFrom p′ (suc number) (next ∷ lines) ≡ accepted q → LinesFill p′ (q .intervals) (next ∷ lines)) →
+        onward answer number (λ p′. linesFrom p′ (suc number) (next ∷ lines)) ≡ accepted q → LinesFill p (q .intervals) (line ∷ next ∷ lines)
+    go (refused fault) a later e = absurd (let z : _≡_ {A = ℕ} 0 1 = cc in omega arith)
+    go (replied p′) a later e =
+        let keeps = line-keeps p p′ line a in
+        with-line p line (keeps .0) (q .intervals) (next ∷ lines) limited (λ h. later (lineRead p line) h (rw (keeps .1) at e))
+
+-- ---- The text
+
+pub accepted-fillable : (text : List ℕ) → Bytes text → (p : Progress) → firstFault text ≡ accepted p → (lent : Tables) → tooShort (countsOf p) lent ≡ false →
+    Fillable (p .intervals) text (lent .fences) (lent .tails) (lent .heads) (lent .lengths) (lent .speeds)
+unfolding loadAnswer firstFault
+accepted-fillable text bytes p e lent long =
+    let loaded : loadAnswer text lent ≡ accepted (countsOf p) = rw (e, long) in
+    let found = load-accepts-when-described text bytes lent (countsOf p) .0 loaded in
+    let same = described-town (found .1) in
+    let kept = found .1 .kept .network-accepted in
+    let room = found .2 in
+    let fills = lines-fill start p 1 (pieces lineFeed text) (λ h. absurd (omega arith)) (not-refused (ltb 65536 (length text)) 20 0 (linesFrom start 1 (pieces lineFeed text)) p e) in
+    record {
+      fences-fill = fills .fences-fill;
+      arcs-fill = fills .arcs-fill;
+      fences-long = rw same (room .fences-long);
+      tails-long = rw same (room .tails-long);
+      heads-long = rw same (omega (arith, kept .heads-long, room .heads-long));
+      lengths-long = rw same (omega (arith, kept .lengths-long, room .lengths-long));
+      speeds-long = rw same (omega (arith, kept .speeds-long, room .speeds-long));
+    }

@@ -1,0 +1,247 @@
+-- Filling the tables line by line: each table stores what the lines left give, behind what it has, so that storing what is left comes
+-- to storing all. What is left is told by the lines of a mark, from a place on.
+use Prim.Native.Nat.{ℕ, suc, _+_, _*_, _≤_, _<_}
+use mathlib.Core.Path.{_≡_, refl, sym, ap, _∙_}
+use mathlib.Core.Bool.{true}
+use mathlib.Core.List.{List, [], _∷_, _++_, map, flatten}
+use native.Mathlib.Omega.{arith}
+use lib.Dec.{eqb}
+use lib.ListN.{length, getD, set, drop, length-append, length-map, length-drop}
+use lib.Seq.{sets, length-sets, sets-eq}
+use borrow.Author.Tests.{eqb-true}
+use Rattle.model.specs.Rules.{every, written}
+use Rattle.model.proofs.Rules.{true-both, both-true}
+use Rattle.townfile.specs.Numbers.{decimal, numberKeeps}
+use Rattle.townfile.specs.Grammar.{networkOf, Each}
+use Rattle.townfile.specs.Lines.{markFN, markAR, markOf, markAlone, fieldsOf, numbersOf, numbersKeep}
+use Rattle.townfile.specs.Tables.{arcOf, townOf}
+use Rattle.townfile.specs.Load.{Tables, tables}
+use Rattle.loading.specs.Fields.{lineFrom, numbersFrom, filledBy}
+use Rattle.loading.specs.Filling.{ArcFills, FencesLine, ArcLine, Fillable}
+use Rattle.loading.proofs.BehindMark.{BehindMark}
+use Rattle.loading.proofs.MarkedFrom.{markedFrom, none-left, this-marked, this-unmarked}
+
+-- ---- One table
+
+sets-append : (entries more table : List ℕ) (place : ℕ) → sets table place (entries ++ more) ≡ sets (sets table place entries) (place + length entries) more
+sets-append [] more table place = ap (λ k. sets table k more) (omega arith)
+sets-append (entry ∷ entries) more table place =
+    sets-append entries more (set table place entry) (suc place) ∙ ap (λ k. sets (sets table place (entry ∷ entries)) k more) (omega arith)
+
+-- A table filled up to a place, with what is left to store there.
+pub record FilledTo (before table : List ℕ) (place : ℕ) (left all : List ℕ) : Type 0 where
+  pub same-table : sets table place left ≡ sets before 0 all
+  pub room : place + length left ≤ length table
+  pub same-length : length table ≡ length before
+
+nothing-filled : (table all : List ℕ) → length all ≤ length table → FilledTo table table 0 all all
+nothing-filled table all h = record { same-table = refl; room = omega arith; same-length = refl }
+
+entries-filled : {before table : List ℕ} {place : ℕ} {left all : List ℕ} (entries more after : List ℕ) (place′ : ℕ) → FilledTo before table place left all →
+    left ≡ entries ++ more → after ≡ sets table place entries → place′ ≡ place + length entries → FilledTo before after place′ more all
+entries-filled {table = table} {place = place} entries more after place′ filled e stored moved =
+    record {
+      same-table = rw (stored, moved, ← (sets-append entries more table place), ← e) (filled .same-table);
+      room = omega (arith, filled .room, ap length e, length-append entries more, ap length stored, length-sets table place entries);
+      same-length = ap length stored ∙ length-sets table place entries ∙ filled .same-length;
+    }
+
+all-filled : {before table : List ℕ} {place : ℕ} {left all : List ℕ} → FilledTo before table place left all → length all ≤ length before → left ≡ [] → table ≡ written all before
+all-filled {before = before} {all = all} filled long e =
+    let same : 0 + length all ≡ length all = omega arith in
+    rw e at (filled .same-table) ∙ sets-eq all before 0 (omega arith) ∙ rw same
+
+-- ---- Lines that fill tables
+
+numbers-count : (count : ℕ) (line : List ℕ) → numbersKeep count line ≡ true → length (numbersOf line) ≡ count
+numbers-count count line form =
+    length-map (fieldsOf line) decimal
+    ∙ eqb-true (length (fieldsOf line)) count (true-both (every numberKeeps (fieldsOf line)) (eqb (length (fieldsOf line)) count) form .1)
+
+module _ {text : List ℕ} {at : ℕ} (behind : BehindMark text at) where
+  numbers-behind : numbersFrom text (at + 2) ≡ numbersOf (lineFrom text at)
+  numbers-behind = ap (map decimal) (sym (behind .fields-are))
+
+  filled-behind : (count : ℕ) → markAlone (lineFrom text at) ≡ true → numbersKeep count (lineFrom text at) ≡ true → filledBy count text (at + 2) ≡ true
+  filled-behind count alone form =
+      let parts = true-both (every numberKeeps (fieldsOf (lineFrom text at))) (eqb (length (fieldsOf (lineFrom text at))) count) form in
+      rw (← (behind .fields-are)) (both-true (both-true (sym (behind .alone-is) ∙ alone) (parts .0)) (parts .1))
+
+  arc-behind : (intervals : ℕ) → ArcLine intervals (lineFrom text at) → ArcFills intervals text (at + 2)
+  arc-behind intervals line = record {
+    filled = filled-behind (3 + intervals) (line .alone) (line .form);
+    tail-fits = rw numbers-behind (line .tail-fits);
+    head-fits = rw numbers-behind (line .head-fits);
+    speeds-fit = rw numbers-behind (line .speeds-fit);
+  }
+
+-- ---- All tables
+
+-- What the lines of fences, and those of arcs, store in each table.
+abbrev fencesOf : List (List ℕ) → List ℕ
+fencesOf lines = flatten (map numbersOf lines)
+
+abbrev tailsOf : List (List ℕ) → List ℕ
+tailsOf lines = map (λ a. a .tail) (map arcOf lines)
+
+abbrev headsOf : List (List ℕ) → List ℕ
+headsOf lines = map (λ a. a .head) (map arcOf lines)
+
+abbrev lengthsOf : List (List ℕ) → List ℕ
+lengthsOf lines = map (λ a. a .metres) (map arcOf lines)
+
+abbrev speedsOf : List (List ℕ) → List ℕ
+speedsOf lines = flatten (map (λ a. a .speeds) (map arcOf lines))
+
+-- The tables, with the lines of fences and of arcs that are left of all.
+pub record TablesFilled (intervals : ℕ) (allFences allArcs : List (List ℕ)) (before : Tables) (leftFences leftArcs : List (List ℕ)) (fence arc : ℕ) (lent : Tables) : Type 0 where
+  pub fences-left : Each (FencesLine intervals) leftFences
+  pub arcs-left : Each (ArcLine intervals) leftArcs
+  pub fences-filled : FilledTo (before .fences) (lent .fences) fence (fencesOf leftFences) (fencesOf allFences)
+  pub tails-filled : FilledTo (before .tails) (lent .tails) arc (tailsOf leftArcs) (tailsOf allArcs)
+  pub heads-filled : FilledTo (before .heads) (lent .heads) arc (headsOf leftArcs) (headsOf allArcs)
+  pub lengths-filled : FilledTo (before .lengths) (lent .lengths) arc (lengthsOf leftArcs) (lengthsOf allArcs)
+  pub speeds-filled : FilledTo (before .speeds) (lent .speeds) (arc * intervals) (speedsOf leftArcs) (speedsOf allArcs)
+
+module _ {intervals : ℕ} {allFences allArcs : List (List ℕ)} {before : Tables} {fences arcs : List (List ℕ)} {line : List ℕ} {fence arc : ℕ} {lent : Tables} where
+  -- A line of fences comes first of those left.
+  module _ (filled : TablesFilled intervals allFences allArcs before (line ∷ fences) arcs fence arc lent) where
+    this-fences : FencesLine intervals line
+    unfolding Each
+    this-fences = filled .fences-left .0
+
+    fences-count : length (numbersOf line) ≡ intervals
+    fences-count = numbers-count intervals line (this-fences .form)
+
+    fences-room : fence + intervals ≤ length (lent .fences)
+    unfolding flatten
+    fences-room = omega (arith, filled .fences-filled .room, fences-count, length-append (numbersOf line) (fencesOf fences))
+
+    fences-stored : (after : List ℕ) → after ≡ sets (lent .fences) fence (numbersOf line) →
+        TablesFilled intervals allFences allArcs before fences arcs (fence + intervals) arc (tables after (lent .tails) (lent .heads) (lent .lengths) (lent .speeds))
+    unfolding flatten Each
+    fences-stored after e = record {
+      fences-left = filled .fences-left .1;
+      arcs-left = filled .arcs-left;
+      fences-filled = entries-filled (numbersOf line) (fencesOf fences) after (fence + intervals) (filled .fences-filled) refl e (omega (arith, fences-count));
+      tails-filled = filled .tails-filled;
+      heads-filled = filled .heads-filled;
+      lengths-filled = filled .lengths-filled;
+      speeds-filled = filled .speeds-filled;
+    }
+
+  -- An arc comes first of those left.
+  module _ (filled : TablesFilled intervals allFences allArcs before fences (line ∷ arcs) fence arc lent) where
+    this-arc : ArcLine intervals line
+    unfolding Each
+    this-arc = filled .arcs-left .0
+
+    speeds-count : length (drop 3 (numbersOf line)) ≡ intervals
+    speeds-count = omega (arith, length-drop 3 (numbersOf line), numbers-count (3 + intervals) line (this-arc .form))
+
+    speeds-room : arc * intervals + intervals ≤ length (lent .speeds)
+    unfolding flatten
+    speeds-room = omega (arith, filled .speeds-filled .room, speeds-count, length-append (drop 3 (numbersOf line)) (speedsOf arcs))
+
+    arc-stored : (tails heads lengths speeds : List ℕ) → tails ≡ set (lent .tails) arc (getD (numbersOf line) 0 0) → heads ≡ set (lent .heads) arc (getD (numbersOf line) 1 0) →
+        lengths ≡ set (lent .lengths) arc (getD (numbersOf line) 2 0) → speeds ≡ sets (lent .speeds) (arc * intervals) (drop 3 (numbersOf line)) →
+        TablesFilled intervals allFences allArcs before fences arcs fence (arc + 1) (tables (lent .fences) tails heads lengths speeds)
+    unfolding flatten Each
+    arc-stored tails heads lengths speeds t h l s = record {
+      fences-left = filled .fences-left;
+      arcs-left = filled .arcs-left .1;
+      fences-filled = filled .fences-filled;
+      tails-filled = entries-filled (getD (numbersOf line) 0 0 ∷ []) (tailsOf arcs) tails (arc + 1) (filled .tails-filled) refl t refl;
+      heads-filled = entries-filled (getD (numbersOf line) 1 0 ∷ []) (headsOf arcs) heads (arc + 1) (filled .heads-filled) refl h refl;
+      lengths-filled = entries-filled (getD (numbersOf line) 2 0 ∷ []) (lengthsOf arcs) lengths (arc + 1) (filled .lengths-filled) refl l refl;
+      speeds-filled = entries-filled (drop 3 (numbersOf line)) (speedsOf arcs) speeds ((arc + 1) * intervals) (filled .speeds-filled) refl s (omega (arith, speeds-count));
+    }
+
+-- ---- The text from a place on
+
+-- The tables, with the lines from a place of the text on left of all.
+abbrev pub FilledFrom : ℕ → List ℕ → Tables → ℕ → ℕ → ℕ → Tables → Type 0
+FilledFrom intervals text before at fence arc lent =
+    TablesFilled intervals (markedFrom markFN text 0) (markedFrom markAR text 0) before (markedFrom markFN text at) (markedFrom markAR text at) fence arc lent
+
+pub fillable-starts : {intervals : ℕ} {text fences tails heads lengths speeds : List ℕ} → Fillable intervals text fences tails heads lengths speeds →
+    FilledFrom intervals text (tables fences tails heads lengths speeds) 0 0 0 (tables fences tails heads lengths speeds)
+unfolding townOf
+fillable-starts {intervals = intervals} fillable = record {
+  fences-left = fillable .fences-fill;
+  arcs-left = fillable .arcs-fill;
+  fences-filled = nothing-filled _ _ (fillable .fences-long);
+  tails-filled = nothing-filled _ _ (fillable .tails-long);
+  heads-filled = nothing-filled _ _ (fillable .heads-long);
+  lengths-filled = nothing-filled _ _ (fillable .lengths-long);
+  speeds-filled = let none : 0 * intervals ≡ 0 = omega arith in rw none (nothing-filled _ _ (fillable .speeds-long));
+}
+
+module _ {intervals : ℕ} (text : List ℕ) {before : Tables} (at : ℕ) {fence arc : ℕ} {lent : Tables} (filled : FilledFrom intervals text before at fence arc lent) where
+  -- Where the lines left begin with one of fences.
+  module _ (behind : BehindMark text at) (is : markOf (lineFrom text at) ≡ markFN) where
+    fences-first : (next : ℕ) → next ≡ at + length (lineFrom text at) + 1 →
+        TablesFilled intervals (markedFrom markFN text 0) (markedFrom markAR text 0) before (lineFrom text at ∷ markedFrom markFN text next) (markedFrom markAR text next) fence arc lent
+    fences-first next e =
+        rw (this-marked markFN (λ z. omega arith) text at next e is, this-unmarked markAR (λ z. omega arith) text at next e (λ a. omega arith)) at filled
+
+    pub fences-asked : (filledBy intervals text (at + 2) ≡ true) × (fence + intervals ≤ length (lent .fences))
+    fences-asked =
+        let first = fences-first (at + length (lineFrom text at) + 1) refl in
+        (filled-behind behind intervals (this-fences first .alone) (this-fences first .form), fences-room first)
+
+    pub fences-next : (next : ℕ) → next ≡ at + 2 + length (lineFrom text (at + 2)) + 1 → (after : List ℕ) → after ≡ sets (lent .fences) fence (numbersFrom text (at + 2)) →
+        FilledFrom intervals text before next (fence + intervals) arc (tables after (lent .tails) (lent .heads) (lent .lengths) (lent .speeds))
+    fences-next next e after s =
+        fences-stored (fences-first next (omega (arith, ap length (behind .line-is)))) after (rw (numbers-behind behind) at s)
+
+  -- Where they begin with an arc.
+  module _ (behind : BehindMark text at) (is : markOf (lineFrom text at) ≡ markAR) where
+    arc-first : (next : ℕ) → next ≡ at + length (lineFrom text at) + 1 →
+        TablesFilled intervals (markedFrom markFN text 0) (markedFrom markAR text 0) before (markedFrom markFN text next) (lineFrom text at ∷ markedFrom markAR text next) fence arc lent
+    arc-first next e =
+        rw (this-marked markAR (λ z. omega arith) text at next e is, this-unmarked markFN (λ z. omega arith) text at next e (λ a. omega arith)) at filled
+
+    pub arc-asked : ArcFills intervals text (at + 2) ×
+        ((arc < length (lent .tails)) × ((arc < length (lent .heads)) × ((arc < length (lent .lengths)) × (arc * intervals + intervals ≤ length (lent .speeds)))))
+    arc-asked =
+        let first = arc-first (at + length (lineFrom text at) + 1) refl in (
+          arc-behind behind intervals (this-arc first),
+          (omega (arith, first .tails-filled .room), (omega (arith, first .heads-filled .room), (omega (arith, first .lengths-filled .room), speeds-room first))),
+        )
+
+    pub arc-next : (next : ℕ) → next ≡ at + 2 + length (lineFrom text (at + 2)) + 1 → (tails heads lengths speeds : List ℕ) →
+        tails ≡ set (lent .tails) arc (getD (numbersFrom text (at + 2)) 0 0) → heads ≡ set (lent .heads) arc (getD (numbersFrom text (at + 2)) 1 0) →
+        lengths ≡ set (lent .lengths) arc (getD (numbersFrom text (at + 2)) 2 0) → speeds ≡ sets (lent .speeds) (arc * intervals) (drop 3 (numbersFrom text (at + 2))) →
+        FilledFrom intervals text before next fence (arc + 1) (tables (lent .fences) tails heads lengths speeds)
+    arc-next next e tails heads lengths speeds t h l s =
+        let numbers = numbers-behind behind in
+        arc-stored (arc-first next (omega (arith, ap length (behind .line-is)))) tails heads lengths speeds (rw numbers at t) (rw numbers at h) (rw numbers at l) (rw numbers at s)
+
+  -- Where they begin with another.
+  pub other-next : (markOf (lineFrom text at) ≡ markFN → ⊥) → (markOf (lineFrom text at) ≡ markAR → ⊥) → (next : ℕ) → next ≡ at + length (lineFrom text at) + 1 →
+      FilledFrom intervals text before next fence arc lent
+  other-next no-fences no-arc next e =
+      rw (this-unmarked markFN (λ z. omega arith) text at next e no-fences, this-unmarked markAR (λ z. omega arith) text at next e no-arc) at filled
+
+  -- Where none is left.
+  pub filled-whole : length text ≤ at → Fillable intervals text (before .fences) (before .tails) (before .heads) (before .lengths) (before .speeds) →
+      let N = networkOf (townOf text) in
+      (lent .fences ≡ written (N .fences) (before .fences))
+      × ((lent .tails ≡ written (N .tails) (before .tails))
+      × ((lent .heads ≡ written (N .heads) (before .heads))
+      × ((lent .lengths ≡ written (N .lengths) (before .lengths))
+      × (lent .speeds ≡ written (N .speeds) (before .speeds)))))
+  unfolding townOf flatten
+  filled-whole past fillable =
+      let fences = none-left markFN (λ z. omega arith) text at past in
+      let arcs = none-left markAR (λ z. omega arith) text at past in (
+        all-filled (filled .fences-filled) (fillable .fences-long) (rw fences),
+        (
+          all-filled (filled .tails-filled) (fillable .tails-long) (rw arcs),
+          (
+            all-filled (filled .heads-filled) (fillable .heads-long) (rw arcs),
+            (all-filled (filled .lengths-filled) (fillable .lengths-long) (rw arcs), all-filled (filled .speeds-filled) (fillable .speeds-long) (rw arcs)),
+          ),
+        ),
+      )

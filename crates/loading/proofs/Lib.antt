@@ -1,0 +1,16 @@
+pub mod BehindMark
+pub mod Digits
+pub mod Fillable
+pub mod Filling
+pub mod LineFrom
+pub mod LineMarks
+pub mod LoadAnswers
+pub mod MarkedFrom
+pub mod Naming
+pub mod NumberLoops
+pub mod NumbersLeft
+pub mod RestLines
+pub mod Rests
+pub mod Scanning
+pub mod Steps
+pub mod Taking

@@ -1,0 +1,45 @@
+-- `fill::fill_fences`: at each turn storing the numbers that are left comes to storing all of them.
+use borrow.Author.Needs.{needs}
+use Prim.Native.Nat.{_-_}
+use native.Mathlib.Omega.{arith}
+use Rattle.loading.proofs.Taking.{Stored, none-stored, one-stored, stored-to-end, all-stored}
+use Rattle.loading.proofs.fill.fill_fences.Statement.{statement}
+use Rattle.loading.proofs.fill.fill_fences.Tie as tie
+
+abbrev Inv-loop : tie.InvT-loop
+Inv-loop text at start count fences₀ i₀ k₀ fences i k = Stored text at start count fences₀ i k fences
+
+abbrev μ-loop : tie.MeasureT-loop
+μ-loop text at start count fences₀ i₀ k₀ fences i k = count - k
+
+loop-holds : tie.Need-loop-holds Inv-loop μ-loop
+loop-holds c = none-stored _ _ _ _ _ (c .before .before .pre .0)
+
+slice-write-fences : tie.Need-slice-write-fences Inv-loop μ-loop
+slice-write-fences c = omega (arith, c .before .before .loop .inv .same-length, c .before .before .before .before .before .pre .1)
+
+loop-again : tie.Need-loop-again Inv-loop μ-loop
+loop-again c = one-stored (c .before .before .loop .inv) (c .before .loop-test .taken) _ (c .take-number .ensures)
+
+same-length : tie.Need-same-length Inv-loop μ-loop
+same-length c = c .before .loop .inv .same-length
+
+returns : tie.Need-returns Inv-loop μ-loop
+returns c = (stored-to-end (c .before .loop .inv) (c .loop-test .left), all-stored (c .before .loop .inv) (c .loop-test .left))
+
+pub fill-fences-spec : {M : Type 1} → statement M
+fill-fences-spec =
+    tie.close
+    (tie.spec
+    Inv-loop
+    μ-loop
+    loop-holds
+    (λ c κs. search needs)
+    (λ c. search needs)
+    (λ c. search needs)
+    slice-write-fences
+    (λ c. search needs)
+    (λ c. search needs)
+    loop-again
+    same-length
+    returns)

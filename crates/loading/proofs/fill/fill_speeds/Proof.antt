@@ -1,0 +1,59 @@
+-- `fill::fill_speeds`: at each turn storing the numbers that are left comes to storing all of them, and those left are speeds.
+use borrow.Author.Needs.{needs}
+use Prim.Native.Nat.{_-_, _≤_}
+use mathlib.Core.Path.{_≡_}
+use mathlib.Core.Bool.{true}
+use native.Mathlib.Omega.{arith}
+use Rattle.model.specs.Rules.{every, speedKeeps}
+use Rattle.loading.specs.Fields.{numbersFrom}
+use Rattle.loading.proofs.Taking.{first-within, Stored, none-stored, next-taking, one-stored, stored-to-end, all-stored}
+use Rattle.loading.proofs.fill.fill_speeds.Statement.{statement}
+use Rattle.loading.proofs.fill.fill_speeds.Tie as tie
+
+abbrev Inv-loop : tie.InvT-loop
+Inv-loop text at start count speeds₀ i₀ k₀ speeds i k = Stored text at start count speeds₀ i k speeds × (every speedKeeps (numbersFrom text i) ≡ true)
+
+abbrev μ-loop : tie.MeasureT-loop
+μ-loop text at start count speeds₀ i₀ k₀ speeds i k = count - k
+
+loop-holds : tie.Need-loop-holds Inv-loop μ-loop
+loop-holds c = (none-stored _ _ _ _ _ (c .before .before .pre .0), c .before .before .pre .1 .0)
+
+-- the number is a speed, and so are those behind it
+speed : (c : tie.After-struct-known Inv-loop μ-loop) → let taken = c .before .take-number .result in
+    (taken .value ≤ 200) × (every speedKeeps (numbersFrom (c .before .before .before .before .before .before .args .text .now) (taken .next)) ≡ true)
+speed c =
+    let turn = c .before .before in
+    first-within (next-taking (turn .before .loop .inv .0) (turn .loop-test .taken) _ (c .before .take-number .ensures)) (turn .before .loop .inv .1)
+
+cast-speeds : tie.Need-cast-speeds Inv-loop μ-loop
+cast-speeds c = record { fits = omega (arith, speed c .0) }
+
+slice-write-speeds : tie.Need-slice-write-speeds Inv-loop μ-loop
+slice-write-speeds c = let at-loop = c .before .before .before in omega (arith, at-loop .loop .inv .0 .same-length, at-loop .before .before .before .pre .1 .1)
+
+loop-again : tie.Need-loop-again Inv-loop μ-loop
+loop-again c = let turn = c .before .before in (one-stored (turn .before .loop .inv .0) (turn .loop-test .taken) _ (c .before .take-number .ensures), speed c .1)
+
+same-length : tie.Need-same-length Inv-loop μ-loop
+same-length c = c .before .loop .inv .0 .same-length
+
+returns : tie.Need-returns Inv-loop μ-loop
+returns c = (stored-to-end (c .before .loop .inv .0) (c .loop-test .left), all-stored (c .before .loop .inv .0) (c .loop-test .left))
+
+pub fill-speeds-spec : {M : Type 1} → statement M
+fill-speeds-spec =
+    tie.close
+    (tie.spec
+    Inv-loop
+    μ-loop
+    loop-holds
+    (λ c κs. search needs)
+    cast-speeds
+    (λ c. search needs)
+    slice-write-speeds
+    (λ c. search needs)
+    (λ c. search needs)
+    loop-again
+    same-length
+    returns)

@@ -1,0 +1,6 @@
+pub mod Fields
+pub mod Filling
+pub mod LineSteps
+pub mod Loads
+pub mod Naming
+pub mod Scans

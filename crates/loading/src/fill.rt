@@ -1,0 +1,137 @@
+// Filling the tables from a text that has no fault.
+ghost use mathlib.Core.Path.{_≡_};
+ghost use mathlib.Core.Bool.{true};
+ghost use Prim.Native.Nat.{_+_, _*_, _≤_, _<_};
+ghost use lib.ListN.{length, getD, set, drop};
+ghost use lib.Seq.{sets};
+ghost use Rattle.model.specs.Rules.{every, speedKeeps, written};
+ghost use Rattle.townfile.specs.Grammar.{networkOf};
+ghost use Rattle.townfile.specs.Tables.{townOf};
+ghost use Rattle.loading.specs.Fields.{lineFrom, numbersFrom, filledBy};
+ghost use Rattle.loading.specs.Filling.{takenAt, ArcFills, Fillable};
+use crate::field::Field;
+use crate::field::line_end;
+use crate::field::mark_at;
+use crate::field::read_field;
+use townfile::mark::ARC;
+use townfile::mark::FENCES;
+
+// A number and the place behind it.
+struct Taken {
+    value: u32,
+    next: usize,
+}
+
+// The number of the field at a place; the scan has shown that there is one.
+fn take_number(text: &[u8], at: usize) -> Taken
+    ensures { λ r. ⌜ r ≡ takenAt (now (text .entry)) at ⌝ }
+{
+    match read_field(text, at) {
+        Field::Number { value, next } => Taken { value, next },
+        Field::Malformed => Taken { value: 0, next: at },
+    }
+}
+
+// Each of the next two writes the numbers that fill the rest of a line, and answers where the line ends.
+fn fill_fences(text: &[u8], at: usize, start: usize, count: usize, fences: &mut [u32]) -> usize
+    requires { ⌜ filledBy count (now text) at ≡ true ⌝ }
+    requires { ⌜ start + count ≤ length (now fences) ⌝ }
+    ensures end { λ r. ⌜ r ≡ at + length (lineFrom (now (text .entry)) at) ⌝ }
+    ensures fences { λ _. ⌜ now (fences .exit) ≡ sets (now (fences .entry)) start (numbersFrom (now (text .entry)) at) ⌝ }
+{
+    let mut i = at;
+    let mut k = 0;
+    while k < count {
+        let taken = take_number(text, i);
+        fences[start + k] = taken.value;
+        i = taken.next;
+        k += 1;
+    }
+    i
+}
+
+fn fill_speeds(text: &[u8], at: usize, start: usize, count: usize, speeds: &mut [u8]) -> usize
+    requires { ⌜ filledBy count (now text) at ≡ true ⌝ }
+    requires { ⌜ every speedKeeps (numbersFrom (now text) at) ≡ true ⌝ }
+    requires { ⌜ start + count ≤ length (now speeds) ⌝ }
+    ensures end { λ r. ⌜ r ≡ at + length (lineFrom (now (text .entry)) at) ⌝ }
+    ensures speeds { λ _. ⌜ now (speeds .exit) ≡ sets (now (speeds .entry)) start (numbersFrom (now (text .entry)) at) ⌝ }
+{
+    let mut i = at;
+    let mut k = 0;
+    while k < count {
+        let taken = take_number(text, i);
+        speeds[start + k] = taken.value as u8;
+        i = taken.next;
+        k += 1;
+    }
+    i
+}
+
+// The arc whose fields stand at a place, and where its line ends.
+fn fill_arc(
+    text: &[u8],
+    at: usize,
+    arc: usize,
+    intervals: usize,
+    tails: &mut [u16],
+    heads: &mut [u16],
+    lengths: &mut [u32],
+    speeds: &mut [u8],
+) -> usize
+    requires { ⌜ ArcFills intervals (now text) at ⌝ }
+    requires { ⌜ arc < length (now tails) ⌝ }
+    requires { ⌜ arc < length (now heads) ⌝ }
+    requires { ⌜ arc < length (now lengths) ⌝ }
+    requires { ⌜ arc * intervals + intervals ≤ length (now speeds) ⌝ }
+    ensures end { λ r. ⌜ r ≡ at + length (lineFrom (now (text .entry)) at) ⌝ }
+    ensures tails { λ _. ⌜ now (tails .exit) ≡ set (now (tails .entry)) arc (getD (numbersFrom (now (text .entry)) at) 0 0) ⌝ }
+    ensures heads { λ _. ⌜ now (heads .exit) ≡ set (now (heads .entry)) arc (getD (numbersFrom (now (text .entry)) at) 1 0) ⌝ }
+    ensures lengths { λ _. ⌜ now (lengths .exit) ≡ set (now (lengths .entry)) arc (getD (numbersFrom (now (text .entry)) at) 2 0) ⌝ }
+    ensures speeds { λ _. ⌜ now (speeds .exit) ≡ sets (now (speeds .entry)) (arc * intervals) (drop 3 (numbersFrom (now (text .entry)) at)) ⌝ }
+{
+    let tail = take_number(text, at);
+    let head = take_number(text, tail.next);
+    let metres = take_number(text, head.next);
+    tails[arc] = tail.value as u16;
+    heads[arc] = head.value as u16;
+    lengths[arc] = metres.value;
+    fill_speeds(text, metres.next, arc * intervals, intervals, speeds)
+}
+
+pub(crate) fn fill(
+    text: &[u8],
+    intervals: usize,
+    fences: &mut [u32],
+    tails: &mut [u16],
+    heads: &mut [u16],
+    lengths: &mut [u32],
+    speeds: &mut [u8],
+)
+    requires { ⌜ Fillable intervals (now text) (now fences) (now tails) (now heads) (now lengths) (now speeds) ⌝ }
+    ensures fences { λ _. ⌜ now (fences .exit) ≡ written (networkOf (townOf (now (text .entry))) .fences) (now (fences .entry)) ⌝ }
+    ensures tails { λ _. ⌜ now (tails .exit) ≡ written (networkOf (townOf (now (text .entry))) .tails) (now (tails .entry)) ⌝ }
+    ensures heads { λ _. ⌜ now (heads .exit) ≡ written (networkOf (townOf (now (text .entry))) .heads) (now (heads .entry)) ⌝ }
+    ensures lengths { λ _. ⌜ now (lengths .exit) ≡ written (networkOf (townOf (now (text .entry))) .lengths) (now (lengths .entry)) ⌝ }
+    ensures speeds { λ _. ⌜ now (speeds .exit) ≡ written (networkOf (townOf (now (text .entry))) .speeds) (now (speeds .entry)) ⌝ }
+{
+    let mut at = 0;
+    let mut fence = 0;
+    let mut arc = 0;
+    while at < text.len() {
+        let mark = mark_at(text, at);
+        match mark {
+            FENCES => {
+                at = fill_fences(text, at + 2, fence, intervals, fences) + 1;
+                fence += intervals;
+            }
+            ARC => {
+                at = fill_arc(text, at + 2, arc, intervals, tails, heads, lengths, speeds) + 1;
+                arc += 1;
+            }
+            _ => {
+                at = line_end(text, at) + 1;
+            }
+        }
+    }
+}

@@ -1,0 +1,112 @@
+// Load: a town file into the lent tables of a network.
+ghost use mathlib.Core.Path.{_≡_};
+ghost use mathlib.Core.Bool.{_||_};
+ghost use lib.Dec.{ltb};
+ghost use Rattle.townfile.specs.Load.{tables, loadAnswer, tablesAfter};
+ghost use Rattle.loading.specs.Loads.{lacksRoom, readingOf};
+use crate::fill::fill;
+use crate::scan::Scanned;
+use crate::scan::scan;
+use model::refusal::Refusal;
+
+pub enum Loaded {
+    Counts {
+        junctions: u32,
+        intervals: u32,
+        arcs: u32,
+    },
+    Refused {
+        refusal: Refusal,
+        line: u32,
+    },
+}
+
+// One of two holds, without a branch.
+fn either(a: bool, b: bool) -> bool
+    ensures { λ r. ⌜ r ≡ (a || b) ⌝ }
+{
+    a || b
+}
+
+// As many entries as a number says do not fit a table.
+fn exceeds(count: u64, room: usize) -> bool
+    ensures { λ r. ⌜ r ≡ ltb room count ⌝ }
+{
+    (room as u64) < count
+}
+
+// A table has too little room for its own entries. More is good.
+fn lacks_room(
+    intervals: u32,
+    arcs: u32,
+    fences: usize,
+    tails: usize,
+    heads: usize,
+    lengths: usize,
+    speeds: usize,
+) -> bool
+    ensures { λ r. ⌜ r ≡ lacksRoom intervals arcs fences tails heads lengths speeds ⌝ }
+{
+    let fence_count = intervals as u64;
+    let arc_count = arcs as u64;
+    either(
+        either(
+            either(
+                either(exceeds(fence_count, fences), exceeds(arc_count, tails)),
+                exceeds(arc_count, heads),
+            ),
+            exceeds(arc_count, lengths),
+        ),
+        exceeds(arc_count * fence_count, speeds),
+    )
+}
+
+pub fn load(
+    text: &[u8],
+    fences: &mut [u32],
+    tails: &mut [u16],
+    heads: &mut [u16],
+    lengths: &mut [u32],
+    speeds: &mut [u8],
+) -> Loaded
+    ensures answer { λ r. ⌜ readingOf r ≡ loadAnswer (now (text .entry)) (tables (now (fences .entry)) (now (tails .entry)) (now (heads .entry)) (now (lengths .entry)) (now (speeds .entry))) ⌝ }
+    ensures fences { λ _. ⌜ now (fences .exit) ≡ tablesAfter (now (text .entry)) (tables (now (fences .entry)) (now (tails .entry)) (now (heads .entry)) (now (lengths .entry)) (now (speeds .entry))) .fences ⌝ }
+    ensures tails { λ _. ⌜ now (tails .exit) ≡ tablesAfter (now (text .entry)) (tables (now (fences .entry)) (now (tails .entry)) (now (heads .entry)) (now (lengths .entry)) (now (speeds .entry))) .tails ⌝ }
+    ensures heads { λ _. ⌜ now (heads .exit) ≡ tablesAfter (now (text .entry)) (tables (now (fences .entry)) (now (tails .entry)) (now (heads .entry)) (now (lengths .entry)) (now (speeds .entry))) .heads ⌝ }
+    ensures lengths { λ _. ⌜ now (lengths .exit) ≡ tablesAfter (now (text .entry)) (tables (now (fences .entry)) (now (tails .entry)) (now (heads .entry)) (now (lengths .entry)) (now (speeds .entry))) .lengths ⌝ }
+    ensures speeds { λ _. ⌜ now (speeds .exit) ≡ tablesAfter (now (text .entry)) (tables (now (fences .entry)) (now (tails .entry)) (now (heads .entry)) (now (lengths .entry)) (now (speeds .entry))) .speeds ⌝ }
+{
+    match scan(text) {
+        Scanned::Refused { refusal, line } => Loaded::Refused { refusal, line },
+        Scanned::Read(progress) => {
+            if lacks_room(
+                progress.intervals,
+                progress.arcs,
+                fences.len(),
+                tails.len(),
+                heads.len(),
+                lengths.len(),
+                speeds.len(),
+            ) {
+                return Loaded::Refused {
+                    refusal: Refusal::TableTooShort,
+                    line: 0,
+                };
+            }
+            fill(
+                text,
+                progress.intervals as usize,
+                fences,
+                tails,
+                heads,
+                lengths,
+                speeds,
+            );
+            Loaded::Counts {
+                junctions: progress.junctions,
+                intervals: progress.intervals,
+                arcs: progress.arcs,
+            }
+        }
+    }
+}

@@ -1,1 +1,3 @@
+pub mod HostAnswers
+pub mod HostSteps
 pub mod Starred

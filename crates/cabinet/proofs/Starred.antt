@@ -2,9 +2,13 @@
 -- computes its reply, also where no tick of 1.7 million covers the length. A town's labels are computed as they are defined.
 use Prim.Native.Nat.{ℕ, _<_}
 use mathlib.Core.Path.{_≡_, refl, sym, ap, _∙_}
-use mathlib.Core.List.{List}
+use mathlib.Core.Bool.{true}
+use mathlib.Core.List.{List, [], _∷_, flatten}
 use mathlib.Core.Option.{Option}
 use native.Mathlib.Omega.{arith}
+use lib.Dec.{ltb}
+use lib.ListN.{getD}
+use borrow.Author.Tests.{ltb-true}
 use Rattle.model.specs.Ticks.{day, tick?}
 use Rattle.model.specs.Flow.{spansOf, covered, firstTick, arrival}
 use Rattle.model.specs.Intervals.{intervalWalk, walkFrom, endsOf, interval, passed, speedAt, tries}
@@ -14,25 +18,34 @@ use Rattle.model.specs.NetworkRules.{endsKeep, networkCheck}
 use Rattle.model.specs.Rules.{replied, firstBroken, every, riseFrom, fencesKeep}
 use Rattle.model.proofs.IntervalWalk.{walk-is-arrival}
 use Rattle.model.proofs.NetworkRules.{accepts-when-kept}
-use Rattle.model.proofs.Rules.{replies-kept}
+use Rattle.model.proofs.Rules.{replies-kept, every-at}
 use Rattle.reckoning.specs.Labelling.{Labelable}
 use Rattle.reckoning.proofs.LabelRules.{labels-replies-when-labelable}
 use Rattle.reckoning.specs.ArcArrival.{arcRules}
 use Rattle.reckoning.proofs.ArcRules.{kept-accepted, replies}
-use Rattle.cabinet.specs.Rows.{Row, Holds, _also_, no-more, sample, StarredRows}
+use Rattle.townfile.specs.Bytes.{upTo, onFirst, pieces}
+use Rattle.townfile.specs.Numbers.{decimalFrom, numberKeeps}
+use Rattle.townfile.specs.Lines.{markOf, nameKeeps, formKeeps, valuesKeep, lineRead, lineAnswer}
+use Rattle.townfile.specs.FirstFault.{refusedAt, accepted, linesFrom, firstFault}
+use Rattle.townfile.specs.Grammar.{Describes, networkOf, joined}
+use Rattle.townfile.specs.Tables.{marked, townOf}
+use Rattle.townfile.specs.Load.{Tables, loadAnswer, tablesAfter}
+use Rattle.townfile.specs.declared.progress.Progress.{Progress}
+use Rattle.townfile.proofs.Described.{describes-when-faultless}
+use Rattle.cabinet.specs.Rows.{Row, LabelsAre, Holds, _also_, no-more, sampleText, sampleWithoutComment, StarredRows}
 
 arc-row : (metres : ℕ) (fences speeds : List ℕ) (departure : ℕ) (arrival : Option ℕ) → firstBroken (arcRules departure metres fences speeds) (tt {0}) ≡ replied (tt {0}) → tick? (intervalWalk fences speeds (spansOf metres) departure) ≡ arrival → Holds (Row.arc metres fences speeds departure arrival)
-arc-row metres fences speeds departure arrival accepted walked =
-    let kept = replies-kept (arcRules departure metres fences speeds) tt tt accepted in
+arc-row metres fences speeds departure arrival taken walked =
+    let kept = replies-kept (arcRules departure metres fences speeds) tt tt taken in
     let a = kept-accepted departure metres fences speeds kept in
     replies departure metres fences speeds kept
     ∙ ap replied (ap tick? (sym (walk-is-arrival fences speeds (spansOf metres) departure (a .fences-kept) (a .some-interval) (a .as-many) (omega (arith, a .some-length)) (a .in-time))) ∙ walked)
 
-town-row : (N : Network) (source departure : ℕ) (expected : List ℕ) → networkCheck N ≡ replied tt → source < N .junctions → departure < day →
-    labelsOf (netOf N) source departure ≡ expected → Holds (Row.town N source departure expected)
-town-row N source departure expected accepted source-below departure-below computed labels predecessors labels-long predecessors-long =
+labels-are : (N : Network) (source departure : ℕ) (expected : List ℕ) → networkCheck N ≡ replied tt → source < N .junctions → departure < day →
+    labelsOf (netOf N) source departure ≡ expected → LabelsAre N source departure expected
+labels-are N source departure expected checked source-below departure-below computed labels predecessors labels-long predecessors-long =
     let q : Labelable N source departure labels predecessors = record {
-      accepted = accepts-when-kept N .0 accepted;
+      accepted = accepts-when-kept N .0 checked;
       source-below = source-below;
       departure-below = departure-below;
       labels-long = labels-long;
@@ -41,8 +54,55 @@ town-row N source departure expected accepted source-below departure-below compu
     let answer = labels-replies-when-labelable N source departure labels predecessors .1 q in
     (answer, rw answer computed)
 
+-- A text whose scan computes describes the town that its lines give.
+describes : (text : List ℕ) (p : Progress) → every (λ byte. ltb byte 256) text ≡ true → firstFault text ≡ accepted p → Describes text (townOf text)
+describes text p small faultless =
+    describes-when-faultless text (λ i h. ltb-true (getD text i 0) 256 (every-at (λ byte. ltb byte 256) 0 text small i h)) (townOf text) .1 ((p, faultless), refl)
+
+-- Texts that describe one town load alike.
+loads-alike : (text text′ : List ℕ) (p : Progress) → firstFault text ≡ accepted p → firstFault text′ ≡ accepted p → townOf text ≡ townOf text′ → (lent : Tables) →
+    (loadAnswer text lent ≡ loadAnswer text′ lent) × (tablesAfter text lent ≡ tablesAfter text′ lent)
+unfolding loadAnswer tablesAfter
+loads-alike text text′ p a b same lent = (rw (a, b), rw (a, b, same))
+
+refused-text : (text : List ℕ) (number line : ℕ) → firstFault text ≡ refusedAt number line → (lent : Tables) → (loadAnswer text lent ≡ refusedAt number line) × (tablesAfter text lent ≡ lent)
+unfolding loadAnswer tablesAfter
+refused-text text number line e lent = (rw e, rw e)
+
+sample-read : Progress
+sample-read = record { turn = 3; junctions = 3; intervals = 2; unnamed = 1; arcs = 3 }
+
+same-town : townOf sampleText ≡ townOf sampleWithoutComment
+unfolding joined pieces upTo onFirst decimalFrom markOf marked townOf flatten
+same-town = refl
+
+sample-scanned : firstFault sampleText ≡ accepted sample-read
+unfolding sample-read joined firstBroken every riseFrom fencesKeep upTo onFirst pieces decimalFrom numberKeeps markOf nameKeeps formKeeps valuesKeep lineRead lineAnswer linesFrom firstFault
+sample-scanned = refl
+
+shorter-scanned : firstFault sampleWithoutComment ≡ accepted sample-read
+unfolding sample-read joined firstBroken every riseFrom fencesKeep upTo onFirst pieces decimalFrom numberKeeps markOf nameKeeps formKeeps valuesKeep lineRead lineAnswer linesFrom firstFault
+shorter-scanned = refl
+
+town-row : Holds (Row.town sampleText 0 10 (10 ∷ 60 ∷ 100 ∷ []))
+unfolding joined pieces upTo onFirst decimalFrom markOf marked townOf flatten firstBroken every riseFrom fencesKeep networkCheck endsKeep labelsOf within offers offer driveOf speedAt interval passed arrival firstTick covered
+town-row = (townOf sampleText, describes sampleText sample-read refl sample-scanned, labels-are (networkOf (townOf sampleText)) 0 10 (10 ∷ 60 ∷ 100 ∷ []) refl (omega arith) (omega arith) refl)
+
+alike-row : Holds (Row.alike sampleText sampleWithoutComment)
+unfolding joined every
+alike-row = (
+  townOf sampleText,
+  describes sampleText sample-read refl sample-scanned,
+  rw same-town (describes sampleWithoutComment sample-read refl shorter-scanned),
+  loads-alike sampleText sampleWithoutComment sample-read sample-scanned shorter-scanned same-town,
+)
+
+empty-row : Holds (Row.refuses [] 27 1)
+unfolding pieces linesFrom firstFault
+empty-row = refused-text [] 27 1 refl
+
 pub starred-rows : StarredRows
-unfolding intervalWalk walkFrom endsOf interval passed tries firstBroken every riseFrom fencesKeep networkCheck endsKeep labelsOf within offers offer driveOf speedAt arrival firstTick covered
+unfolding intervalWalk walkFrom endsOf interval passed tries firstBroken every riseFrom fencesKeep
 starred-rows =
     arc-row _ _ _ _ _ refl refl
     also arc-row _ _ _ _ _ refl refl
@@ -52,5 +112,7 @@ starred-rows =
     also arc-row _ _ _ _ _ refl refl
     also arc-row _ _ _ _ _ refl refl
     also arc-row _ _ _ _ _ refl refl
-    also town-row sample 0 10 _ refl (omega arith) (omega arith) refl
+    also town-row
+    also alike-row
+    also empty-row
     also no-more

@@ -1,24 +1,38 @@
 -- "Reckonings to keep. Starred ones form the proved set. A row is length; fences; speeds; departure; arrival."
 use Prim.Native.Nat.{ℕ}
 use mathlib.Core.Path.{_≡_}
-use mathlib.Core.List.{List, [], _∷_}
+use mathlib.Core.List.{List, [], _∷_, _++_}
 use mathlib.Core.Option.{Option, none, some}
 use lib.ListN.{length}
-use Rattle.model.specs.Network.{Network, network}
+use Rattle.model.specs.Network.{Network}
 use Rattle.model.specs.Rules.{replied}
 use Rattle.reckoning.specs.ArcArrival.{arcArrival}
 use Rattle.reckoning.specs.Labels.{labelsAnswer, labelsAfter}
+use Rattle.townfile.specs.Grammar.{Town, Describes, networkOf, joined}
+use Rattle.townfile.specs.FirstFault.{refusedAt}
+use Rattle.townfile.specs.Load.{Tables, loadAnswer, tablesAfter}
 
--- A row of an arc, whose arrival is none where the arc cannot be driven; and one of a town, with its labels.
+-- A row of an arc, whose arrival is none where the arc cannot be driven; one of a town's text, with its labels; two texts that load
+-- alike; and a text that is refused.
 pub data Row : Type 0 where
   arc : (metres : ℕ) (fences speeds : List ℕ) (departure : ℕ) (arrival : Option ℕ) → Row
-  town : (N : Network) (source departure : ℕ) (expected : List ℕ) → Row
+  town : (text : List ℕ) (source departure : ℕ) (expected : List ℕ) → Row
+  alike : (text text′ : List ℕ) → Row
+  refuses : (text : List ℕ) (number line : ℕ) → Row
 
--- What a row claims, from the definitions of the operations; of a town, for all lent buffers of the right length.
+-- The labels of a network, for all lent buffers of the right length.
+abbrev pub LabelsAre : Network → ℕ → ℕ → List ℕ → Type 0
+LabelsAre N source departure expected = (labels predecessors : List ℕ) → length labels ≡ N .junctions → length predecessors ≡ N .junctions →
+    (labelsAnswer N source departure labels predecessors ≡ replied tt) × (labelsAfter N source departure labels predecessors ≡ expected)
+
+-- What a row claims, from the definitions of the operations. The labels of a text are those of the town that it describes. Texts load
+-- alike, or are refused, whatever tables are lent.
 abbrev pub Holds : Row → Type 0
 Holds (arc metres fences speeds departure arrival) = arcArrival departure metres fences speeds ≡ replied arrival
-Holds (town N source departure expected) = (labels predecessors : List ℕ) → length labels ≡ N .junctions → length predecessors ≡ N .junctions →
-    (labelsAnswer N source departure labels predecessors ≡ replied tt) × (labelsAfter N source departure labels predecessors ≡ expected)
+Holds (town text source departure expected) = (T : Town) × Describes text T × LabelsAre (networkOf T) source departure expected
+Holds (alike text text′) = (T : Town) × Describes text T × Describes text′ T
+    × ((lent : Tables) → (loadAnswer text lent ≡ loadAnswer text′ lent) × (tablesAfter text lent ≡ tablesAfter text′ lent))
+Holds (refuses text number line) = (lent : Tables) → (loadAnswer text lent ≡ refusedAt number line) × (tablesAfter text lent ≡ lent)
 
 infixr 5 _also_
 -- Every row of a list holds.
@@ -26,9 +40,32 @@ pub data Each : List Row → Type 0 where
   no-more : Each []
   _also_ : {row : Row} {rows : List Row} → Holds row → Each rows → Each (row ∷ rows)
 
--- The sample town: what its TN, FN and AR lines say.
-abbrev pub sample : Network
-sample = network 3 (0 ∷ 100 ∷ []) (0 ∷ 0 ∷ 1 ∷ []) (1 ∷ 2 ∷ 2 ∷ []) (50 ∷ 100 ∷ 50 ∷ []) (36 ∷ 18 ∷ 40 ∷ 20 ∷ 36 ∷ 36 ∷ [])
+-- The sample town's lines, without its comment, and with it at the end.
+abbrev pub sampleLines : List (List ℕ)
+sampleLines =
+    -- TN 3 2
+    (84 ∷ 78 ∷ 32 ∷ 51 ∷ 32 ∷ 50 ∷ [])
+    -- FN 0 100
+    ∷ (70 ∷ 78 ∷ 32 ∷ 48 ∷ 32 ∷ 49 ∷ 48 ∷ 48 ∷ [])
+    -- JN 0 Mill Cross
+    ∷ (74 ∷ 78 ∷ 32 ∷ 48 ∷ 32 ∷ 77 ∷ 105 ∷ 108 ∷ 108 ∷ 32 ∷ 67 ∷ 114 ∷ 111 ∷ 115 ∷ 115 ∷ [])
+    -- AR 0 1 50 36 18
+    ∷ (65 ∷ 82 ∷ 32 ∷ 48 ∷ 32 ∷ 49 ∷ 32 ∷ 53 ∷ 48 ∷ 32 ∷ 51 ∷ 54 ∷ 32 ∷ 49 ∷ 56 ∷ [])
+    -- AR 0 2 100 40 20
+    ∷ (65 ∷ 82 ∷ 32 ∷ 48 ∷ 32 ∷ 50 ∷ 32 ∷ 49 ∷ 48 ∷ 48 ∷ 32 ∷ 52 ∷ 48 ∷ 32 ∷ 50 ∷ 48 ∷ [])
+    -- AR 1 2 50 36 36
+    ∷ (65 ∷ 82 ∷ 32 ∷ 49 ∷ 32 ∷ 50 ∷ 32 ∷ 53 ∷ 48 ∷ 32 ∷ 51 ∷ 54 ∷ 32 ∷ 51 ∷ 54 ∷ [])
+    ∷ []
+
+-- CM end of plan
+abbrev pub comment : List ℕ
+comment = 67 ∷ 77 ∷ 32 ∷ 101 ∷ 110 ∷ 100 ∷ 32 ∷ 111 ∷ 102 ∷ 32 ∷ 112 ∷ 108 ∷ 97 ∷ 110 ∷ []
+
+abbrev pub sampleWithoutComment : List ℕ
+sampleWithoutComment = joined sampleLines
+
+abbrev pub sampleText : List ℕ
+sampleText = joined (sampleLines ++ (comment ∷ []))
 
 abbrev pub starred : List Row
 starred =
@@ -40,7 +77,9 @@ starred =
     ∷ arc 2 (0 ∷ 100 ∷ []) (36 ∷ 0 ∷ []) 99 none
     ∷ arc 1 (0 ∷ []) (1 ∷ []) 1727964 (some 1728000)
     ∷ arc 1 (0 ∷ []) (1 ∷ []) 1727965 none
-    ∷ town sample 0 10 (10 ∷ 60 ∷ 100 ∷ [])
+    ∷ town sampleText 0 10 (10 ∷ 60 ∷ 100 ∷ [])
+    ∷ alike sampleText sampleWithoutComment
+    ∷ refuses [] 27 1
     ∷ []
 
 -- The one claim.

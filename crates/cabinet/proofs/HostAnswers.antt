@@ -1,0 +1,243 @@
+-- The host question is answered from the town that the text describes: the tables have room for every town, so that Load refuses only
+-- with a fault of the text; the town's network is accepted, so that Route refuses only a question; and what is left is the
+-- destination's label, which is the earliest arrival and lies below the codes.
+use Prim.Native.Nat.{ℕ, zero, suc, _+_, _*_, _≤_, _<_}
+use mathlib.Core.Path.{_≡_, refl, sym, subst, _∙_}
+use mathlib.Core.Bool.{Bool, true, false, cond}
+use mathlib.Core.List.{List, [], _∷_, _++_}
+use mathlib.Core.Logic.{_⊎_, inl, inr}
+use native.Mathlib.Nat.{mul-le-mul}
+use native.Mathlib.Omega.{arith}
+use lib.Dec.{ltb, eqb}
+use lib.ListN.{length, getD, take, replicate, length-replicate}
+use borrow.Author.Tests.{not-false, ltb-true, eqb-false}
+use Rattle.model.specs.Ticks.{day, last, never}
+use Rattle.model.specs.Limits.{maxJunctions, maxArcs, maxIntervals}
+use Rattle.model.specs.Network.{Network, Accepted, netOf}
+use Rattle.model.specs.NetworkRules.{networkRules, networkCheck}
+use Rattle.model.specs.Walks.{Net, Arrives, start, along}
+use Rattle.model.specs.Demands.{label}
+use Rattle.model.specs.Rules.{Outcome, refused, replied, Rule, _if_, AllKept}
+use Rattle.model.proofs.Demands.{demand-2}
+use Rattle.model.proofs.NetworkRules.{accepts-when-kept}
+use Rattle.model.proofs.Rules.{refused-exactly-when, replies-kept, kept-before}
+use Rattle.reckoning.specs.Question.{startRules}
+use Rattle.reckoning.specs.Route.{Routable, destinationRules, foundRules, routeAnswer}
+use Rattle.reckoning.proofs.RouteRules.{route-replies-when-routable, room-for-every-route}
+use Rattle.townfile.specs.FirstFault as fault
+use Rattle.townfile.specs.FirstFault.{Reading, refusedAt, accepted, atEnd, linesFrom, onward, firstFault}
+use Rattle.townfile.specs.Bytes.{lineFeed, pieces}
+use Rattle.townfile.specs.Lines.{lineRules, lineAnswer}
+use Rattle.townfile.specs.Grammar.{Bytes, Town, Describes, networkOf}
+use Rattle.townfile.specs.Load.{LongEnough, countsOfTown, loadAnswer}
+use Rattle.townfile.specs.declared.progress.Progress.{Progress}
+use Rattle.townfile.proofs.Described.{described-town, faultless-described}
+use Rattle.townfile.proofs.Loaded.{long-fits, described-answer}
+use Rattle.cabinet.specs.Host.{hostRefused, hostTables, hostList, afterRoute, hostAnswer, HostRefusal, HostRefusesOnly, HostHasRoom, EarliestAt, Answers, HostAnswersEarliest}
+
+-- ---- The faults of a text have the numbers 20 to 27
+
+abbrev Fault : ℕ → Type 0
+Fault number = (20 ≤ number) × (number ≤ 27)
+
+same-fault : {Reply : Type 0} {number number′ line line′ : ℕ} → _≡_ {A = Reading Reply} (refusedAt number line) (refusedAt number′ line′) → Fault number → Fault number′
+same-fault {number = number} {number′} e fault = let same : number ≡ number′ = cc in rw same at fault
+
+rule-fault : (p : Progress) (line : List ℕ) (k : ℕ) {number : ℕ} → k < 5 → (getD (lineRules p line) k (0 if false)) .number ≡ number → Fault number
+rule-fault p line zero h e = (omega arith, omega arith)
+rule-fault p line (suc zero) h e = (omega arith, omega arith)
+rule-fault p line (suc (suc zero)) h e = (omega arith, omega arith)
+rule-fault p line (suc (suc (suc zero))) h e = (omega arith, omega arith)
+rule-fault p line (suc (suc (suc (suc zero)))) h e = (omega arith, omega arith)
+rule-fault p line (suc (suc (suc (suc (suc k))))) h e = absurd (omega arith)
+
+line-fault : (p : Progress) (line : List ℕ) (number : ℕ) → lineAnswer p line ≡ refused number → Fault number
+unfolding lineAnswer
+line-fault p line number e =
+    let at = refused-exactly-when Progress (lineRules p line) _ number .0 e in
+    rule-fault p line (at .0) (at .1) (at .4)
+
+end-fault : (test : Bool) {rest : Reading Progress} (first at : ℕ) {number line : ℕ} → Fault first → cond test (refusedAt first at) rest ≡ refusedAt number line → (rest ≡ refusedAt number line → Fault number) → Fault number
+end-fault true first at fault e later = same-fault e fault
+end-fault false first at fault e later = later e
+
+at-end-fault : (p : Progress) (n number line : ℕ) → atEnd p n ≡ refusedAt number line → Fault number
+at-end-fault p n number line e = end-fault (ltb (p .turn) 2) 27 n (omega arith, omega arith) e (λ z. absurd (let z : _≡_ {A = ℕ} 0 1 = cc in omega arith))
+
+lines-fault : (p : Progress) (n : ℕ) (lines : List (List ℕ)) (number line : ℕ) → linesFrom p n lines ≡ refusedAt number line → Fault number
+unfolding linesFrom
+lines-fault p n [] number line e = at-end-fault p n number line e
+lines-fault p n (behind ∷ []) number line e = go (eqb (length behind) 0) e
+  where
+    go : (empty : Bool) → cond empty (atEnd p n) (refusedAt 21 n) ≡ refusedAt number line → Fault number
+    go true e = at-end-fault p n number line e
+    go false e = same-fault e (omega arith, omega arith)
+lines-fault p n (first ∷ next ∷ lines) number line e = go (lineAnswer p first) refl (λ q. lines-fault q (suc n) (next ∷ lines) number line) e
+  where
+    go : (outcome : Outcome Progress) → lineAnswer p first ≡ outcome → ((q : Progress) → linesFrom q (suc n) (next ∷ lines) ≡ refusedAt number line → Fault number) →
+        onward outcome n (λ q. linesFrom q (suc n) (next ∷ lines)) ≡ refusedAt number line → Fault number
+    go (refused fault) is rest e = same-fault e (line-fault p first fault is)
+    go (replied q) is rest e = rest q e
+
+text-fault : (text : List ℕ) (number line : ℕ) → firstFault text ≡ refusedAt number line → Fault number
+unfolding firstFault
+text-fault text number line e = end-fault (ltb 65536 (length text)) 20 0 (omega arith, omega arith) e (lines-fault fault.start 1 (pieces lineFeed text) number line)
+
+-- ---- The tables have room for every town
+
+zeros-long : (room : ℕ) {n : ℕ} → n ≤ room → n ≤ length (replicate {A = ℕ} room 0)
+zeros-long room fits = rw (length-replicate {A = ℕ} room 0) fits
+
+town-long : (N : Network) → Accepted N → LongEnough N hostTables
+town-long N kept = record {
+  fences-long = zeros-long maxIntervals (kept .intervals-fit);
+  tails-long = zeros-long maxArcs (kept .arcs-fit);
+  heads-long = zeros-long maxArcs (kept .arcs-fit);
+  lengths-long = zeros-long maxArcs (kept .arcs-fit);
+  speeds-long = zeros-long (maxArcs * maxIntervals) (mul-le-mul (kept .arcs-fit) (kept .intervals-fit));
+}
+
+town-loads : {text : List ℕ} {T : Town} → Describes text T → loadAnswer text hostTables ≡ accepted (countsOfTown T)
+town-loads {T = T} described = described-answer hostTables described ∙ rw (long-fits T hostTables (town-long (networkOf T) (described .kept .network-accepted)))
+
+-- A text describes a town, or Load refuses it for a fault.
+loads : (text : List ℕ) → Bytes text → ((T : Town) × Describes text T) ⊎ ((number : ℕ) × (line : ℕ) × (loadAnswer text hostTables ≡ refusedAt number line) × Fault number)
+unfolding loadAnswer
+loads text bytes = go (firstFault text) refl
+  where
+    go : (reading : Reading Progress) → firstFault text ≡ reading → ((T : Town) × Describes text T) ⊎ ((number : ℕ) × (line : ℕ) × (loadAnswer text hostTables ≡ refusedAt number line) × Fault number)
+    go (refusedAt number line) e = inr (number, line, rw e, text-fault text number line e)
+    go (accepted p) e = inl (faultless-described bytes e)
+
+-- ---- The answer
+
+arrives-by-last : {N : Net} {source departure j t : ℕ} → departure ≤ last → Arrives N source departure j t → t ≤ last
+arrives-by-last early start = early
+arrives-by-last early (along a is-arc before by-last) = by-last
+
+module _ (N : Network) (kept : Accepted N) (source departure destination : ℕ) where
+  abbrev answer : Outcome ℕ
+  answer = routeAnswer N source departure destination hostList
+
+  abbrev arrival : ℕ
+  arrival = label N source departure destination
+
+  label-earliest : Routable N source departure destination hostList → EarliestAt (netOf N) source departure destination arrival
+  label-earliest r =
+      let d = demand-2 N kept source departure (r .source-below) (r .departure-below) in
+      record {
+        attained = d .attained destination (r .destination-below) (r .reached);
+        no-sooner = λ t walk. d .no-sooner destination t walk;
+        no-sooner-waiting = λ t walk. d .no-sooner-waiting destination t walk;
+      }
+
+  label-below : Routable N source departure destination hostList → arrival < hostRefused
+  label-below r = omega (arith, arrives-by-last {departure = departure} (omega (arith, r .departure-below)) (label-earliest r .attained))
+
+  answered-routable : (count : ℕ) → answer ≡ replied count → Routable N source departure destination hostList
+  answered-routable count e = route-replies-when-routable N source departure destination hostList count .0 e .0
+
+  earliest-answered : source < N .junctions → departure < day → destination < N .junctions → {tick : ℕ} → EarliestAt (netOf N) source departure destination tick → afterRoute answer arrival ≡ tick
+  earliest-answered source-below departure-below destination-below {tick} earliest =
+      let d = demand-2 N kept source departure source-below departure-below in
+      let reached : arrival ≡ never → ⊥ = λ e. d .unreached destination tick e (earliest .attained) in
+      let sooner = d .no-sooner destination tick (earliest .attained) in
+      let later = earliest .no-sooner arrival (d .attained destination destination-below reached) in
+      rw (room-for-every-route N source departure destination hostList kept source-below departure-below destination-below reached (zeros-long maxJunctions (omega arith))) (omega (arith, sooner, later))
+
+  -- Of the rules behind the network's, the last is never broken.
+  abbrev rules : List Rule
+  rules = startRules N source departure ++ (destinationRules N destination ++ foundRules N source departure destination hostList)
+
+  rule-refusal : (k : ℕ) {number : ℕ} → k < 5 → AllKept (take k rules) → (getD rules k (0 if false)) .number ≡ number → answer ≡ refused number → HostRefusal number
+  rule-refusal zero h before e r = subst HostRefusal e HostRefusal.source
+  rule-refusal (suc zero) h before e r = subst HostRefusal e HostRefusal.departure
+  rule-refusal (suc (suc zero)) h before e r = subst HostRefusal e HostRefusal.destination
+  rule-refusal (suc (suc (suc zero))) h before e r = subst HostRefusal e HostRefusal.unreached
+  rule-refusal (suc (suc (suc (suc zero)))) h before e r =
+      let source-below = ltb-true source (N .junctions) (not-false _ (before .0)) in
+      let departure-below = ltb-true departure day (not-false _ (before .1 .0)) in
+      let destination-below = ltb-true destination (N .junctions) (not-false _ (before .1 .1 .0)) in
+      let reached = eqb-false arrival never (before .1 .1 .1 .0) in
+      let replies = room-for-every-route N source departure destination hostList kept source-below departure-below destination-below reached (zeros-long maxJunctions (omega arith)) in
+      absurd (let z : _≡_ {A = ℕ} 0 1 = cc in omega arith)
+  rule-refusal (suc (suc (suc (suc (suc k))))) h before e r = absurd (omega arith)
+
+  network-kept : AllKept (networkRules N)
+  unfolding networkCheck
+  network-kept = replies-kept (networkRules N) tt tt (accepts-when-kept N .1 kept)
+
+  route-refusal : (number : ℕ) → answer ≡ refused number → HostRefusal number
+  unfolding routeAnswer
+  route-refusal number e =
+      let at = refused-exactly-when ℕ rules _ number .0 (sym (kept-before (networkRules N) rules _ network-kept) ∙ e) in
+      rule-refusal (at .0) (at .1) (at .2) (at .4) e
+
+-- ---- The host's answer
+
+module _ (text : List ℕ) (source departure destination : ℕ) where
+  described-answers : {T : Town} → Describes text T →
+      hostAnswer text source departure destination ≡ afterRoute (routeAnswer (networkOf T) source departure destination hostList) (label (networkOf T) source departure destination)
+  unfolding hostAnswer
+  described-answers described = rw (town-loads described, described-town described)
+
+  fault-answers : {number line : ℕ} → loadAnswer text hostTables ≡ refusedAt number line → hostAnswer text source departure destination ≡ hostRefused + number
+  unfolding hostAnswer
+  fault-answers e = rw e
+
+pub host-refuses-only : HostRefusesOnly
+host-refuses-only text bytes source departure destination number e = go (loads text bytes)
+  where
+    routed : (N : Network) → Accepted N → (outcome : Outcome ℕ) → routeAnswer N source departure destination hostList ≡ outcome →
+        afterRoute outcome (label N source departure destination) ≡ hostRefused + number → HostRefusal number
+    routed N kept (refused n) is e = let same : n ≡ number = omega arith in route-refusal N kept source departure destination number (is ∙ rw same)
+    routed N kept (replied count) is e = absurd (omega (arith, label-below N kept source departure destination (answered-routable N kept source departure destination count is)))
+
+    go : ((T : Town) × Describes text T) ⊎ ((number : ℕ) × (line : ℕ) × (loadAnswer text hostTables ≡ refusedAt number line) × Fault number) → HostRefusal number
+    go (inl found) = routed (networkOf (found .0)) (found .1 .kept .network-accepted) _ refl (sym (described-answers text source departure destination (found .1)) ∙ e)
+    go (inr fault) =
+        let answer = fault-answers text source departure destination (fault .2) in
+        HostRefusal.text number (omega (arith, answer, e, fault .3 .0)) (omega (arith, answer, e, fault .3 .1))
+
+pub host-has-room : HostHasRoom
+host-has-room text bytes source departure destination number e = go (host-refuses-only text bytes source departure destination number e)
+  where
+    go : {n : ℕ} → HostRefusal n → (n ≡ 28 → ⊥) × (n ≡ 14 → ⊥) × (1 ≤ n → n ≤ 8 → ⊥)
+    go (HostRefusal.text n low high) = (λ e. omega arith, λ e. omega arith, λ some few. omega arith)
+    go HostRefusal.source = (λ e. omega arith, λ e. omega arith, λ some few. omega arith)
+    go HostRefusal.departure = (λ e. omega arith, λ e. omega arith, λ some few. omega arith)
+    go HostRefusal.destination = (λ e. omega arith, λ e. omega arith, λ some few. omega arith)
+    go HostRefusal.unreached = (λ e. omega arith, λ e. omega arith, λ some few. omega arith)
+
+pub host-answers-earliest : HostAnswersEarliest
+host-answers-earliest text bytes source departure destination tick = (forward, back)
+  where
+    routed : {T : Town} → Describes text T → (outcome : Outcome ℕ) → routeAnswer (networkOf T) source departure destination hostList ≡ outcome →
+        afterRoute outcome (label (networkOf T) source departure destination) ≡ tick → tick < hostRefused → Answers text source departure destination tick
+    routed described (refused number) is e below = absurd (omega arith)
+    routed {T} described (replied count) is e below =
+        let kept = described .kept .network-accepted in
+        let r = answered-routable (networkOf T) kept source departure destination count is in
+        record {
+          town = T;
+          described = described;
+          source-below = r .source-below;
+          departure-below = r .departure-below;
+          destination-below = r .destination-below;
+          earliest = rw e at (label-earliest (networkOf T) kept source departure destination r);
+        }
+
+    forward : (hostAnswer text source departure destination ≡ tick) × (tick < hostRefused) → Answers text source departure destination tick
+    forward answers = go (loads text bytes)
+      where
+        go : ((T : Town) × Describes text T) ⊎ ((number : ℕ) × (line : ℕ) × (loadAnswer text hostTables ≡ refusedAt number line) × Fault number) → Answers text source departure destination tick
+        go (inl found) = routed (found .1) _ refl (sym (described-answers text source departure destination (found .1)) ∙ answers .0) (answers .1)
+        go (inr fault) = absurd (omega (arith, fault-answers text source departure destination (fault .2), answers .0, answers .1))
+
+    back : Answers text source departure destination tick → (hostAnswer text source departure destination ≡ tick) × (tick < hostRefused)
+    back a =
+        let N = networkOf (a .town) in
+        let early : departure ≤ last = omega (arith, a .departure-below) in (
+          described-answers text source departure destination (a .described) ∙ earliest-answered N (a .described .kept .network-accepted) source departure destination (a .source-below) (a .departure-below) (a .destination-below) (a .earliest),
+          omega (arith, arrives-by-last early (a .earliest .attained)),
+        )

@@ -1,0 +1,94 @@
+-- "Host question, called from the cabinet's C program: town text as bytes, source, departure, destination. It loads into tables of
+-- its own, long enough for every file, then answers as Route with enough space for the route. A refusal in either step ends the
+-- host question at once, as 4,294,900,000 + its number; otherwise the result is the destination's label."
+use Prim.Native.Nat.{ℕ, _+_, _*_, _≤_, _<_}
+use mathlib.Core.Path.{_≡_}
+use mathlib.Core.List.{List}
+use mathlib.Core.Logic.{_↔_}
+use lib.ListN.{replicate}
+use Rattle.model.specs.Limits.{maxJunctions, maxArcs, maxIntervals}
+use Rattle.model.specs.Ticks.{day}
+use Rattle.model.specs.Network.{netOf}
+use Rattle.model.specs.Walks.{Net, Arrives, ArrivesWaiting}
+use Rattle.model.specs.Demands.{label}
+use Rattle.model.specs.Rules.{Outcome, refused, replied}
+use Rattle.reckoning.specs.Route.{routeAnswer}
+use Rattle.townfile.specs.FirstFault.{Reading, refusedAt, accepted}
+use Rattle.townfile.specs.Grammar.{Bytes, Town, Describes, networkOf}
+use Rattle.townfile.specs.Tables.{townOf}
+use Rattle.townfile.specs.Load.{Counts, Tables, tables, loadAnswer}
+
+-- A refusal's code is this and its number.
+abbrev pub hostRefused : ℕ
+hostRefused = 4294900000
+
+-- The tables of its own, and the list for the route, as they are before anything is written.
+abbrev pub hostTables : Tables
+hostTables = tables (replicate maxIntervals 0) (replicate maxArcs 0) (replicate maxArcs 0) (replicate maxArcs 0) (replicate (maxArcs * maxIntervals) 0)
+
+abbrev pub hostList : List ℕ
+hostList = replicate maxJunctions 0
+
+-- The number of the refusal that a step ends in. No refusal has number 0.
+abbrev pub loadNumber : Reading Counts → ℕ
+loadNumber (refusedAt number line) = number
+loadNumber (accepted counts) = 0
+
+abbrev pub routeNumber : Outcome ℕ → ℕ
+routeNumber (refused number) = number
+routeNumber (replied count) = 0
+
+-- The steps, each a refusal's code or what follows.
+abbrev pub afterLoad : Reading Counts → ℕ → ℕ
+afterLoad (refusedAt number line) next = hostRefused + number
+afterLoad (accepted counts) next = next
+
+abbrev pub afterRoute : Outcome ℕ → ℕ → ℕ
+afterRoute (refused number) next = hostRefused + number
+afterRoute (replied count) next = next
+
+unfoldable pub hostAnswer : List ℕ → ℕ → ℕ → ℕ → ℕ
+hostAnswer text source departure destination =
+    let N = networkOf (townOf text) in
+    afterLoad (loadAnswer text hostTables) (afterRoute (routeAnswer N source departure destination hostList) (label N source departure destination))
+
+-- ---- What is proved of it
+
+-- The refusals that it can end in: Load's 20 to 27, then 9, 10, 12 and 13.
+pub data HostRefusal : ℕ → Type 0 where
+  text : (number : ℕ) → 20 ≤ number → number ≤ 27 → HostRefusal number
+  source : HostRefusal 9
+  departure : HostRefusal 10
+  destination : HostRefusal 12
+  unreached : HostRefusal 13
+
+-- Of a text of bytes the host question ends in no other refusal.
+abbrev pub HostRefusesOnly : Type 0
+HostRefusesOnly = (text : List ℕ) → Bytes text → (source departure destination number : ℕ) →
+    hostAnswer text source departure destination ≡ hostRefused + number → HostRefusal number
+
+-- Its tables and its list are never too short, and no town's network is refused: it never answers the code of 28, of 14, or of 1 to 8.
+abbrev pub HostHasRoom : Type 0
+HostHasRoom = (text : List ℕ) → Bytes text → (source departure destination number : ℕ) →
+    hostAnswer text source departure destination ≡ hostRefused + number → (number ≡ 28 → ⊥) × (number ≡ 14 → ⊥) × (1 ≤ number → number ≤ 8 → ⊥)
+
+-- A tick is the earliest arrival at a junction over all walks from the source, also over those that wait.
+pub record EarliestAt (N : Net) (source departure j tick : ℕ) : Type 0 where
+  pub attained : Arrives N source departure j tick
+  pub no-sooner : (t : ℕ) → Arrives N source departure j t → tick ≤ t
+  pub no-sooner-waiting : (t : ℕ) → ArrivesWaiting N source departure j t → tick ≤ t
+
+-- What an answer below the codes says: the text describes a town, the source and the destination are junctions of it, the departure
+-- lies in the day, and the answer is the earliest arrival.
+pub record Answers (text : List ℕ) (source departure destination tick : ℕ) : Type 0 where
+  pub town : Town
+  pub described : Describes text town
+  pub source-below : source < town .junctions
+  pub departure-below : departure < day
+  pub destination-below : destination < town .junctions
+  pub earliest : EarliestAt (netOf (networkOf town)) source departure destination tick
+
+-- An answer below the codes is the earliest arrival in the town that the text describes, and there is no other way to get one.
+abbrev pub HostAnswersEarliest : Type 0
+HostAnswersEarliest = (text : List ℕ) → Bytes text → (source departure destination tick : ℕ) →
+    ((hostAnswer text source departure destination ≡ tick) × (tick < hostRefused)) ↔ Answers text source departure destination tick

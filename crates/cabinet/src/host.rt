@@ -1,0 +1,143 @@
+// Host question: the destination's label in the town that a text describes, or a refusal's code.
+ghost use mathlib.Core.Path.{_≡_};
+ghost use Prim.Native.Nat.{_+_, _*_, _≤_};
+ghost use lib.ListN.{length, take};
+ghost use Rattle.model.specs.Network.{network};
+ghost use Rattle.model.specs.Refusals.{numberOf};
+ghost use Rattle.loading.specs.Loads.{readingOf};
+ghost use Rattle.reckoning.specs.Route.{outcomeOf, arrivalOf, routeAnswer, routeArrival};
+ghost use Rattle.cabinet.specs.Host.{hostRefused, loadNumber, routeNumber, hostAnswer};
+use loading::load::Loaded;
+use loading::load::load;
+use model::limit::MAX_ARCS;
+use model::limit::MAX_INTERVALS;
+use model::limit::MAX_JUNCTIONS;
+use model::refusal::Refusal;
+use model::tick::Tick;
+use reckoning::route::Routed;
+use reckoning::route::route;
+
+// A refusal's code is this and its number. It is above every tick.
+const HOST_REFUSED: u32 = 4_294_900_000;
+
+const MAX_SPEEDS: usize = MAX_ARCS * MAX_INTERVALS;
+
+fn code(refusal: Refusal) -> u32
+    ensures { λ r. ⌜ r ≡ hostRefused + numberOf refusal ⌝ }
+{
+    HOST_REFUSED + refusal.number()
+}
+
+fn load_refusal(loaded: Loaded) -> u32
+    ensures { λ r. ⌜ r ≡ hostRefused + loadNumber (readingOf loaded) ⌝ }
+{
+    match loaded {
+        Loaded::Refused { refusal, line: _ } => code(refusal),
+        Loaded::Counts {
+            junctions: _,
+            intervals: _,
+            arcs: _,
+        } => HOST_REFUSED,
+    }
+}
+
+fn route_refusal(routed: Routed) -> u32
+    ensures { λ r. ⌜ r ≡ hostRefused + routeNumber (outcomeOf routed) ⌝ }
+{
+    match routed {
+        Routed::Refused(refusal) => code(refusal),
+        Routed::Arcs {
+            count: _,
+            arrival: _,
+        } => HOST_REFUSED,
+    }
+}
+
+// Route in the network that stands at the tables' start.
+fn route_in_tables(
+    junctions: u32,
+    intervals: usize,
+    arcs: usize,
+    fences: &[u32],
+    tails: &[u16],
+    heads: &[u16],
+    lengths: &[u32],
+    speeds: &[u8],
+    source: u32,
+    departure: u32,
+    destination: u32,
+    list: &mut [u16],
+) -> Routed
+    requires { ⌜ intervals ≤ length (now fences) ⌝ }
+    requires { ⌜ arcs ≤ length (now tails) ⌝ }
+    requires { ⌜ arcs ≤ length (now heads) ⌝ }
+    requires { ⌜ arcs ≤ length (now lengths) ⌝ }
+    requires { ⌜ arcs * intervals ≤ length (now speeds) ⌝ }
+    ensures answer { λ r. ⌜ outcomeOf r ≡ routeAnswer (network junctions (take intervals (now (fences .entry))) (take arcs (now (tails .entry))) (take arcs (now (heads .entry))) (take arcs (now (lengths .entry))) (take (arcs * intervals) (now (speeds .entry)))) source departure destination (now (list .entry)) ⌝ }
+    ensures arrival { λ r. ⌜ arrivalOf r ≡ routeArrival (network junctions (take intervals (now (fences .entry))) (take arcs (now (tails .entry))) (take arcs (now (heads .entry))) (take arcs (now (lengths .entry))) (take (arcs * intervals) (now (speeds .entry)))) source departure destination (now (list .entry)) ⌝ }
+{
+    let speed_count = arcs * intervals;
+    route(
+        junctions,
+        &fences[..intervals],
+        &tails[..arcs],
+        &heads[..arcs],
+        &lengths[..arcs],
+        &speeds[..speed_count],
+        source,
+        Tick { number: departure },
+        destination,
+        list,
+    )
+}
+
+#[no_mangle]
+pub extern "C" fn cabinet_host_question(
+    text: &[u8],
+    source: u32,
+    departure: u32,
+    destination: u32,
+) -> u32
+    ensures { λ r. ⌜ r ≡ hostAnswer (now (text .entry)) source departure destination ⌝ }
+{
+    let mut fences = [0u32; MAX_INTERVALS];
+    let mut tails = [0u16; MAX_ARCS];
+    let mut heads = [0u16; MAX_ARCS];
+    let mut lengths = [0u32; MAX_ARCS];
+    let mut speeds = [0u8; MAX_SPEEDS];
+    let loaded = load(
+        text,
+        &mut fences,
+        &mut tails,
+        &mut heads,
+        &mut lengths,
+        &mut speeds,
+    );
+    let Loaded::Counts {
+        junctions,
+        intervals,
+        arcs,
+    } = loaded
+    else {
+        return load_refusal(loaded);
+    };
+    let mut list = [0u16; MAX_JUNCTIONS];
+    let routed = route_in_tables(
+        junctions,
+        intervals as usize,
+        arcs as usize,
+        &fences,
+        &tails,
+        &heads,
+        &lengths,
+        &speeds,
+        source,
+        departure,
+        destination,
+        &mut list,
+    );
+    let Routed::Arcs { count: _, arrival } = routed else {
+        return route_refusal(routed);
+    };
+    arrival
+}

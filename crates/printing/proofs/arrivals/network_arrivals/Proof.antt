@@ -1,0 +1,79 @@
+-- `arrivals::network_arrivals`: what Labels refuses, or the tables that it writes.
+use Prim.Native.Nat.{ℕ, _≤_}
+use mathlib.Core.Path.{_≡_, sym, ap, _∙_}
+use mathlib.Core.List.{List}
+use native.Mathlib.Omega.{arith}
+use lib.ListN.{length, take, replicate}
+use lib.Seq.{length-take-le}
+use denote.Ref.{now}
+use Rattle.model.specs.Labels.{labelsOf, predecessorsOf}
+use Rattle.model.specs.Network.{Network, network, netOf}
+use Rattle.model.specs.Rules.{replied}
+use Rattle.reckoning.specs.Labels.{outcomeOf, labelsAnswer}
+use Rattle.reckoning.specs.declared.labels.Labelled.the-variants.{Written}
+use Rattle.printing.proofs.Networks.{few-junctions, printable, answer-refused, answer-written, labels-written, predecessors-written, printable-too, printed-too}
+use borrow.Author.Needs.{needs}
+use Rattle.printing.proofs.arrivals.network_arrivals.Statement.{statement}
+use Rattle.printing.proofs.arrivals.network_arrivals.Tie as tie
+
+abbrev N : tie.Start → Network
+N s = network (s .args .junctions) (now (s .args .fences)) (now (s .args .tails)) (now (s .args .heads)) (now (s .args .lengths)) (now (s .args .speeds))
+
+abbrev begun : tie.After-label-parts → tie.Start
+begun c = c .before .before .before .before .before .before .before .before
+
+few : (s : tie.Start) → s .args .junctions ≤ 200
+few s = few-junctions (N s) (s .args .source) (s .args .departure) (s .pre)
+
+-- the parts that Labels is lent
+abbrev part : tie.Start → List ℕ
+part s = take (s .args .junctions) (replicate 200 0)
+
+part-long : (s : tie.Start) → length (part s) ≡ s .args .junctions
+part-long s = length-take-le (s .args .junctions) (replicate 200 0) (few s)
+
+is-written : (c : tie.After-label-parts) → c .label-parts .result ≡ Written → replied tt ≡ labelsAnswer (N (begun c)) (begun c .args .source) (begun c .args .departure) (part (begun c)) (part (begun c))
+is-written c told = ap outcomeOf (sym told) ∙ c .label-parts .ensures .0
+
+labels-are : (c : tie.After-label-parts) → c .label-parts .result ≡ Written → take (begun c .args .junctions) (c .label-parts .last .1 .1 .1 .1 .1 .1 .1 .1 .0) ≡ labelsOf (netOf (N (begun c))) (begun c .args .source) (begun c .args .departure)
+labels-are c told = c .label-parts .ensures .1 .0 ∙ labels-written (N (begun c)) _ _ (begun c .pre) (part (begun c)) (part (begun c)) (part-long (begun c)) (part-long (begun c)) (is-written c told)
+
+predecessors-are : (c : tie.After-label-parts) → c .label-parts .result ≡ Written → take (begun c .args .junctions) (c .label-parts .last .1 .1 .1 .1 .1 .1 .1 .1 .1 .0) ≡ predecessorsOf (netOf (N (begun c))) (begun c .args .source) (begun c .args .departure)
+predecessors-are c told = c .label-parts .ensures .1 .1 ∙ predecessors-written (N (begun c)) _ _ (begun c .pre) (part (begun c)) (part (begun c)) (part-long (begun c)) (part-long (begun c)) (is-written c told)
+
+label-parts-requires : tie.Need-label-parts-requires
+label-parts-requires c κs = let start = c .before .before .before .before .before .before .before in (few start, few start)
+
+put-parts-requires : tie.Need-put-parts-requires
+put-parts-requires c κs =
+    let called = c .before .before .before .before .before .before .before in
+    (omega (arith, few (begun called), called .label-parts .kept .1 .1 .1 .1 .1 .1 .1 .1 .0), (omega (arith, few (begun called), called .label-parts .kept .1 .1 .1 .1 .1 .1 .1 .1 .1 .0), printable-too (labels-are called (c .before .before .before .enum-told .given .1)) (predecessors-are called (c .before .before .before .enum-told .given .1)) (printable (N (begun called)) _ _ (begun called .pre))))
+
+returns : tie.Need-returns
+returns c =
+    let called = c .before .before .before .before .before .before .before in
+    let start = begun called in
+    rw (answer-refused (N start) _ _ (start .pre) _ _ (part-long start) (part-long start) (ap outcomeOf (sym (c .before .before .before .refusal .given .1)) ∙ called .label-parts .ensures .0)) (c .put-refusal .ensures)
+
+returns-2 : tie.Need-returns-2
+returns-2 c =
+    let called = c .before .before .before .before .before .before .before .before in
+    let start = begun called in
+    let told = c .before .before .before .before .enum-told .given .1 in
+    rw (answer-written (N start) _ _ (start .pre) _ _ (part-long start) (part-long start) (is-written called told)) (printed-too (labels-are called told) (predecessors-are called told) (c .put-parts .ensures))
+
+pub network-arrivals-spec : {M : Type 1} → statement M
+network-arrivals-spec =
+    tie.close
+    (tie.spec
+    (λ c. search needs)
+    (λ c. search needs)
+    label-parts-requires
+    (λ c. search needs)
+    (λ c κs. search needs)
+    (λ c. search needs)
+    (λ c. search needs)
+    (λ c. search needs)
+    put-parts-requires
+    returns
+    returns-2)

@@ -1,0 +1,93 @@
+-- "For more than 65,536 bytes in all it prints only `refused 20 line 0`. Then a first line not of that form, or none, gives `refused 25
+-- line 0`, then Load's refusals with their town-file line, then 9 or 10 with line 0. Otherwise the header shown below, then a line per
+-- junction: its number, its label, its predecessor, one space apart; `-` for unreached or no predecessor. Each printed line ends in LF."
+use Prim.Native.Nat.{ℕ, suc}
+use mathlib.Core.Bool.{cond, not}
+use mathlib.Core.List.{List, [], _∷_, _++_}
+use lib.Dec.{ltb, eqb}
+use lib.ListN.{length}
+use Rattle.model.specs.Ticks.{never}
+use Rattle.model.specs.Labels.{noArc, labelsOf, predecessorsOf}
+use Rattle.model.specs.Network.{Network, netOf}
+use Rattle.model.specs.Rules.{Outcome, refused, replied, firstBroken}
+use Rattle.townfile.specs.Bytes.{lineFeed, space}
+use Rattle.townfile.specs.FirstFault.{Reading, refusedAt, accepted, firstFault}
+use Rattle.townfile.specs.Grammar.{networkOf}
+use Rattle.townfile.specs.Tables.{townOf}
+use Rattle.townfile.specs.declared.progress.Progress.{Progress}
+use Rattle.reckoning.specs.Question.{startRules}
+use Rattle.printing.specs.Digits.{digitsOf}
+use Rattle.printing.specs.Question.{asks, sourceIn, departureIn, townIn}
+
+-- ---- What is answered
+
+-- Both tables, a label and a predecessor for each junction.
+pub record Arrivals : Type 0 where
+  pub labels : List ℕ
+  pub predecessors : List ℕ
+
+abbrev pub arrivalsIn : Network → ℕ → ℕ → Arrivals
+arrivalsIn N source departure = record { labels = labelsOf (netOf N) source departure; predecessors = predecessorsOf (netOf N) source departure }
+
+abbrev pub atLineZero : Outcome Arrivals → Reading Arrivals
+atLineZero (refused number) = refusedAt number 0
+atLineZero (replied arrivals) = accepted arrivals
+
+-- "Then 9 or 10 with line 0."
+unfoldable pub networkAnswer : Network → ℕ → ℕ → Reading Arrivals
+networkAnswer N source departure = atLineZero (firstBroken (startRules N source departure) (arrivalsIn N source departure))
+
+-- "Then Load's refusals with their town-file line."
+abbrev pub unlessFaulty : Reading Progress → Reading Arrivals → Reading Arrivals
+unlessFaulty (refusedAt number line) answer = refusedAt number line
+unlessFaulty (accepted progress) answer = answer
+
+unfoldable pub townAnswer : List ℕ → ℕ → ℕ → Reading Arrivals
+townAnswer text source departure = unlessFaulty (firstFault text) (networkAnswer (networkOf (townOf text)) source departure)
+
+unfoldable pub answerTo : List ℕ → Reading Arrivals
+answerTo input =
+    cond (ltb 65536 (length input)) (refusedAt 20 0)
+    (cond (not (asks input)) (refusedAt 25 0)
+    (townAnswer (townIn input) (sourceIn input) (departureIn input)))
+
+-- ---- How it is printed
+
+-- A number, or `-` where it is the mark for none.
+unfoldable pub numberUnless : ℕ → ℕ → List ℕ
+numberUnless none n = cond (eqb n none) (45 ∷ []) (digitsOf n)
+
+-- "Its number, its label, its predecessor, one space apart."
+unfoldable pub junctionLine : ℕ → ℕ → ℕ → List ℕ
+junctionLine junction label predecessor =
+    digitsOf junction ++ (space ∷ (numberUnless never label ++ (space ∷ (numberUnless noArc predecessor ++ (lineFeed ∷ [])))))
+
+-- The lines of the junctions from one on.
+unfoldable pub junctionLines : ℕ → List ℕ → List ℕ → List ℕ
+junctionLines junction [] predecessors = []
+junctionLines junction (label ∷ labels) [] = []
+junctionLines junction (label ∷ labels) (predecessor ∷ predecessors) = junctionLine junction label predecessor ++ junctionLines (suc junction) labels predecessors
+
+-- `junction arrival arc`
+abbrev pub header : List ℕ
+header = 106 ∷ 117 ∷ 110 ∷ 99 ∷ 116 ∷ 105 ∷ 111 ∷ 110 ∷ 32 ∷ 97 ∷ 114 ∷ 114 ∷ 105 ∷ 118 ∷ 97 ∷ 108 ∷ 32 ∷ 97 ∷ 114 ∷ 99 ∷ lineFeed ∷ []
+
+unfoldable pub tableText : List ℕ → List ℕ → List ℕ
+tableText labels predecessors = header ++ junctionLines 0 labels predecessors
+
+-- `refused ` and ` line `
+abbrev pub refusedWord : List ℕ
+refusedWord = 114 ∷ 101 ∷ 102 ∷ 117 ∷ 115 ∷ 101 ∷ 100 ∷ 32 ∷ []
+
+abbrev pub lineWord : List ℕ
+lineWord = 32 ∷ 108 ∷ 105 ∷ 110 ∷ 101 ∷ 32 ∷ []
+
+unfoldable pub refusalText : ℕ → ℕ → List ℕ
+refusalText number line = refusedWord ++ (digitsOf number ++ (lineWord ++ (digitsOf line ++ (lineFeed ∷ []))))
+
+abbrev pub textOf : Reading Arrivals → List ℕ
+textOf (refusedAt number line) = refusalText number line
+textOf (accepted arrivals) = tableText (arrivals .labels) (arrivals .predecessors)
+
+unfoldable pub arrivalsText : List ℕ → List ℕ
+arrivalsText input = textOf (answerTo input)

@@ -1,0 +1,196 @@
+// What the program prints for its whole input.
+ghost use mathlib.Core.Path.{_≡_};
+ghost use Prim.Native.Nat.{_≤_};
+ghost use lib.ListN.{length, take};
+ghost use Rattle.model.specs.Network.{network};
+ghost use Rattle.model.specs.NetworkRules.{networkCheck};
+ghost use Rattle.model.specs.Rules.{replied, written};
+ghost use Rattle.reckoning.specs.Labels.{outcomeOf, labelsAnswer, labelsAfter, predecessorsAfter};
+ghost use Rattle.printing.specs.Answer.{textOf, tableText, networkAnswer, townAnswer, arrivalsText};
+ghost use Rattle.printing.specs.Putting.{Printed, Printable, networkAt, Lendable};
+use crate::put::put_refusal;
+use crate::question::Asked;
+use crate::question::question;
+use crate::table::put_table;
+use loading::load::Loaded;
+use loading::load::load;
+use model::limit::MAX_ARCS;
+use model::limit::MAX_INTERVALS;
+use model::limit::MAX_JUNCTIONS;
+use model::refusal::Refusal;
+use model::tick::Tick;
+use reckoning::labels::Labelled;
+use reckoning::labels::labels;
+use townfile::limit::MAX_TEXT;
+
+// Lends the first entries of both buffers to Labels, one for each junction.
+fn label_parts(
+    junctions: u32,
+    fences: &[u32],
+    tails: &[u16],
+    heads: &[u16],
+    lengths: &[u32],
+    speeds: &[u8],
+    source: u32,
+    departure: u32,
+    earliest: &mut [u32],
+    predecessors: &mut [u16],
+) -> Labelled
+    requires { ⌜ junctions ≤ length (now earliest) ⌝ }
+    requires { ⌜ junctions ≤ length (now predecessors) ⌝ }
+    ensures answer { λ r. ⌜ outcomeOf r ≡ labelsAnswer (network junctions (now (fences .entry)) (now (tails .entry)) (now (heads .entry)) (now (lengths .entry)) (now (speeds .entry))) source departure (take junctions (now (earliest .entry))) (take junctions (now (predecessors .entry))) ⌝ }
+    ensures labels { λ _. ⌜ take junctions (now (earliest .exit)) ≡ labelsAfter (network junctions (now (fences .entry)) (now (tails .entry)) (now (heads .entry)) (now (lengths .entry)) (now (speeds .entry))) source departure (take junctions (now (earliest .entry))) (take junctions (now (predecessors .entry))) ⌝ }
+    ensures predecessors { λ _. ⌜ take junctions (now (predecessors .exit)) ≡ predecessorsAfter (network junctions (now (fences .entry)) (now (tails .entry)) (now (heads .entry)) (now (lengths .entry)) (now (speeds .entry))) source departure (take junctions (now (earliest .entry))) (take junctions (now (predecessors .entry))) ⌝ }
+{
+    let count = junctions as usize;
+    labels(
+        junctions,
+        fences,
+        tails,
+        heads,
+        lengths,
+        speeds,
+        source,
+        Tick { number: departure },
+        &mut earliest[..count],
+        &mut predecessors[..count],
+    )
+}
+
+fn put_parts(
+    output: &mut [u8; 4096],
+    junctions: u32,
+    earliest: &[u32],
+    predecessors: &[u16],
+) -> usize
+    requires { ⌜ junctions ≤ length (now earliest) ⌝ }
+    requires { ⌜ junctions ≤ length (now predecessors) ⌝ }
+    requires { ⌜ Printable (take junctions (now earliest)) (take junctions (now predecessors)) ⌝ }
+    ensures { λ r. ⌜ Printed (tableText (take junctions (now (earliest .entry))) (take junctions (now (predecessors .entry)))) (now (output .entry)) (now (output .exit)) r ⌝ }
+{
+    let count = junctions as usize;
+    put_table(output, &earliest[..count], &predecessors[..count])
+}
+
+// The arrivals in a network.
+fn network_arrivals(
+    junctions: u32,
+    fences: &[u32],
+    tails: &[u16],
+    heads: &[u16],
+    lengths: &[u32],
+    speeds: &[u8],
+    source: u32,
+    departure: u32,
+    output: &mut [u8; 4096],
+) -> usize
+    requires { ⌜ networkCheck (network junctions (now fences) (now tails) (now heads) (now lengths) (now speeds)) ≡ replied tt ⌝ }
+    ensures { λ r. ⌜ Printed (textOf (networkAnswer (network junctions (now (fences .entry)) (now (tails .entry)) (now (heads .entry)) (now (lengths .entry)) (now (speeds .entry))) source departure)) (now (output .entry)) (now (output .exit)) r ⌝ }
+{
+    let mut earliest = [0u32; MAX_JUNCTIONS];
+    let mut predecessors = [0u16; MAX_JUNCTIONS];
+    match label_parts(
+        junctions,
+        fences,
+        tails,
+        heads,
+        lengths,
+        speeds,
+        source,
+        departure,
+        &mut earliest,
+        &mut predecessors,
+    ) {
+        Labelled::Refused(refusal) => put_refusal(output, refusal, 0),
+        Labelled::Written => put_parts(output, junctions, &earliest, &predecessors),
+    }
+}
+
+// Lends the first entries of the tables as a network.
+fn loaded_arrivals(
+    junctions: u32,
+    intervals: u32,
+    arcs: u32,
+    fences: &[u32],
+    tails: &[u16],
+    heads: &[u16],
+    lengths: &[u32],
+    speeds: &[u8],
+    source: u32,
+    departure: u32,
+    output: &mut [u8; 4096],
+) -> usize
+    requires { ⌜ Lendable junctions intervals arcs (now fences) (now tails) (now heads) (now lengths) (now speeds) ⌝ }
+    ensures { λ r. ⌜ Printed (textOf (networkAnswer (networkAt junctions intervals arcs (now (fences .entry)) (now (tails .entry)) (now (heads .entry)) (now (lengths .entry)) (now (speeds .entry))) source departure)) (now (output .entry)) (now (output .exit)) r ⌝ }
+{
+    let width = intervals as usize;
+    let count = arcs as usize;
+    let speed_count = count * width;
+    network_arrivals(
+        junctions,
+        &fences[..width],
+        &tails[..count],
+        &heads[..count],
+        &lengths[..count],
+        &speeds[..speed_count],
+        source,
+        departure,
+        output,
+    )
+}
+
+// The arrivals in the town of a town file.
+fn town_arrivals(text: &[u8], source: u32, departure: u32, output: &mut [u8; 4096]) -> usize
+    ensures { λ r. ⌜ Printed (textOf (townAnswer (now (text .entry)) source departure)) (now (output .entry)) (now (output .exit)) r ⌝ }
+{
+    let mut fences = [0u32; MAX_INTERVALS];
+    let mut tails = [0u16; MAX_ARCS];
+    let mut heads = [0u16; MAX_ARCS];
+    let mut lengths = [0u32; MAX_ARCS];
+    let mut speeds = [0u8; MAX_ARCS * MAX_INTERVALS];
+    match load(
+        text,
+        &mut fences,
+        &mut tails,
+        &mut heads,
+        &mut lengths,
+        &mut speeds,
+    ) {
+        Loaded::Refused { refusal, line } => put_refusal(output, refusal, line),
+        Loaded::Counts {
+            junctions,
+            intervals,
+            arcs,
+        } => loaded_arrivals(
+            junctions,
+            intervals,
+            arcs,
+            &fences,
+            &tails,
+            &heads,
+            &lengths,
+            &speeds,
+            source,
+            departure,
+            output,
+        ),
+    }
+}
+
+pub fn arrivals(input: &[u8], output: &mut [u8; 4096]) -> usize
+    ensures length { λ r. ⌜ r ≡ length (arrivalsText (now (input .entry))) ⌝ }
+    ensures output { λ _. ⌜ now (output .exit) ≡ written (arrivalsText (now (input .entry))) (now (output .entry)) ⌝ }
+{
+    if MAX_TEXT < input.len() {
+        return put_refusal(output, Refusal::TextLength, 0);
+    }
+    let Asked::Question {
+        source,
+        departure,
+        town,
+    } = question(input)
+    else {
+        return put_refusal(output, Refusal::FieldForm, 0);
+    };
+    town_arrivals(&input[town..], source, departure, output)
+}

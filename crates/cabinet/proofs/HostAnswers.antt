@@ -1,18 +1,17 @@
 -- The host question is answered from the town that the text describes: the tables have room for every town, so that Load refuses only
 -- with a fault of the text; the town's network is accepted, so that Route refuses only a question; and what is left is the
 -- destination's label, which is the earliest arrival and lies below the codes.
-use Prim.Native.Nat.{ℕ, zero, suc, _+_, _*_, _≤_, _<_}
+use Prim.Native.Nat.{ℕ, zero, suc, _+_, _≤_, _<_}
 use mathlib.Core.Path.{_≡_, refl, sym, subst, _∙_}
 use mathlib.Core.Bool.{Bool, true, false, cond}
 use mathlib.Core.List.{List, [], _∷_, _++_}
 use mathlib.Core.Logic.{_⊎_, inl, inr}
-use native.Mathlib.Nat.{mul-le-mul}
 use native.Mathlib.Omega.{arith}
 use lib.Dec.{ltb, eqb}
-use lib.ListN.{length, getD, take, replicate, length-replicate}
+use lib.ListN.{length, getD, take}
 use borrow.Author.Tests.{not-false, ltb-true, eqb-false}
 use Rattle.model.specs.Ticks.{day, last, never}
-use Rattle.model.specs.Limits.{maxJunctions, maxArcs, maxIntervals}
+use Rattle.model.specs.Limits.{maxJunctions}
 use Rattle.model.specs.Network.{Network, Accepted, netOf}
 use Rattle.model.specs.NetworkRules.{networkRules, networkCheck}
 use Rattle.model.specs.Walks.{Net, Arrives, start, along}
@@ -29,11 +28,11 @@ use Rattle.townfile.specs.FirstFault.{Reading, refusedAt, accepted, atEnd, line
 use Rattle.townfile.specs.Bytes.{lineFeed, pieces}
 use Rattle.townfile.specs.Lines.{lineRules, lineAnswer}
 use Rattle.townfile.specs.Grammar.{Bytes, Town, Describes, networkOf}
-use Rattle.townfile.specs.Load.{LongEnough, countsOfTown, loadAnswer}
+use Rattle.townfile.specs.Load.{roomyTables, loadAnswer}
 use Rattle.townfile.specs.declared.progress.Progress.{Progress}
 use Rattle.townfile.proofs.Described.{described-town, faultless-described}
-use Rattle.townfile.proofs.Loaded.{long-fits, described-answer}
-use Rattle.cabinet.specs.Host.{hostRefused, hostTables, hostList, afterRoute, hostAnswer, HostRefusal, HostRefusesOnly, HostHasRoom, EarliestAt, Answers, HostAnswersEarliest}
+use Rattle.townfile.proofs.Held.{zeros-long, town-loads}
+use Rattle.cabinet.specs.Host.{hostRefused, hostList, afterRoute, hostAnswer, HostRefusal, HostRefusesOnly, HostHasRoom, EarliestAt, Answers, HostAnswersEarliest}
 
 -- ---- The faults of a text have the numbers 20 to 27
 
@@ -83,29 +82,12 @@ text-fault : (text : List ℕ) (number line : ℕ) → firstFault text ≡ refus
 unfolding firstFault
 text-fault text number line e = end-fault (ltb 65536 (length text)) 20 0 (omega arith, omega arith) e (lines-fault fault.start 1 (pieces lineFeed text) number line)
 
--- ---- The tables have room for every town
-
-zeros-long : (room : ℕ) {n : ℕ} → n ≤ room → n ≤ length (replicate {A = ℕ} room 0)
-zeros-long room fits = rw (length-replicate {A = ℕ} room 0) fits
-
-town-long : (N : Network) → Accepted N → LongEnough N hostTables
-town-long N kept = record {
-  fences-long = zeros-long maxIntervals (kept .intervals-fit);
-  tails-long = zeros-long maxArcs (kept .arcs-fit);
-  heads-long = zeros-long maxArcs (kept .arcs-fit);
-  lengths-long = zeros-long maxArcs (kept .arcs-fit);
-  speeds-long = zeros-long (maxArcs * maxIntervals) (mul-le-mul (kept .arcs-fit) (kept .intervals-fit));
-}
-
-town-loads : {text : List ℕ} {T : Town} → Describes text T → loadAnswer text hostTables ≡ accepted (countsOfTown T)
-town-loads {T = T} described = described-answer hostTables described ∙ rw (long-fits T hostTables (town-long (networkOf T) (described .kept .network-accepted)))
-
 -- A text describes a town, or Load refuses it for a fault.
-loads : (text : List ℕ) → Bytes text → ((T : Town) × Describes text T) ⊎ ((number : ℕ) × (line : ℕ) × (loadAnswer text hostTables ≡ refusedAt number line) × Fault number)
+loads : (text : List ℕ) → Bytes text → ((T : Town) × Describes text T) ⊎ ((number : ℕ) × (line : ℕ) × (loadAnswer text roomyTables ≡ refusedAt number line) × Fault number)
 unfolding loadAnswer
 loads text bytes = go (firstFault text) refl
   where
-    go : (reading : Reading Progress) → firstFault text ≡ reading → ((T : Town) × Describes text T) ⊎ ((number : ℕ) × (line : ℕ) × (loadAnswer text hostTables ≡ refusedAt number line) × Fault number)
+    go : (reading : Reading Progress) → firstFault text ≡ reading → ((T : Town) × Describes text T) ⊎ ((number : ℕ) × (line : ℕ) × (loadAnswer text roomyTables ≡ refusedAt number line) × Fault number)
     go (refusedAt number line) e = inr (number, line, rw e, text-fault text number line e)
     go (accepted p) e = inl (faultless-described bytes e)
 
@@ -181,7 +163,7 @@ module _ (text : List ℕ) (source departure destination : ℕ) where
   unfolding hostAnswer
   described-answers described = rw (town-loads described, described-town described)
 
-  fault-answers : {number line : ℕ} → loadAnswer text hostTables ≡ refusedAt number line → hostAnswer text source departure destination ≡ hostRefused + number
+  fault-answers : {number line : ℕ} → loadAnswer text roomyTables ≡ refusedAt number line → hostAnswer text source departure destination ≡ hostRefused + number
   unfolding hostAnswer
   fault-answers e = rw e
 
@@ -193,7 +175,7 @@ host-refuses-only text bytes source departure destination number e = go (loads t
     routed N kept (refused n) is e = let same : n ≡ number = omega arith in route-refusal N kept source departure destination number (is ∙ rw same)
     routed N kept (replied count) is e = absurd (omega (arith, label-below N kept source departure destination (answered-routable N kept source departure destination count is)))
 
-    go : ((T : Town) × Describes text T) ⊎ ((number : ℕ) × (line : ℕ) × (loadAnswer text hostTables ≡ refusedAt number line) × Fault number) → HostRefusal number
+    go : ((T : Town) × Describes text T) ⊎ ((number : ℕ) × (line : ℕ) × (loadAnswer text roomyTables ≡ refusedAt number line) × Fault number) → HostRefusal number
     go (inl found) = routed (networkOf (found .0)) (found .1 .kept .network-accepted) _ refl (sym (described-answers text source departure destination (found .1)) ∙ e)
     go (inr fault) =
         let answer = fault-answers text source departure destination (fault .2) in
@@ -230,7 +212,7 @@ host-answers-earliest text bytes source departure destination tick = (forward, b
     forward : (hostAnswer text source departure destination ≡ tick) × (tick < hostRefused) → Answers text source departure destination tick
     forward answers = go (loads text bytes)
       where
-        go : ((T : Town) × Describes text T) ⊎ ((number : ℕ) × (line : ℕ) × (loadAnswer text hostTables ≡ refusedAt number line) × Fault number) → Answers text source departure destination tick
+        go : ((T : Town) × Describes text T) ⊎ ((number : ℕ) × (line : ℕ) × (loadAnswer text roomyTables ≡ refusedAt number line) × Fault number) → Answers text source departure destination tick
         go (inl found) = routed (found .1) _ refl (sym (described-answers text source departure destination (found .1)) ∙ answers .0) (answers .1)
         go (inr fault) = absurd (omega (arith, fault-answers text source departure destination (fault .2), answers .0, answers .1))
 

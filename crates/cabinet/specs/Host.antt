@@ -1,12 +1,12 @@
 -- "Host question, called from the cabinet's C program: town text as bytes, source, departure, destination. It loads into tables of
 -- its own, long enough for every file, then answers as Route with enough space for the route. A refusal in either step ends the
 -- host question at once, as 4,294,900,000 + its number; otherwise the result is the destination's label."
-use Prim.Native.Nat.{ℕ, _+_, _*_, _≤_, _<_}
+use Prim.Native.Nat.{ℕ, _+_, _≤_, _<_}
 use mathlib.Core.Path.{_≡_}
 use mathlib.Core.List.{List}
 use mathlib.Core.Logic.{_↔_}
 use lib.ListN.{replicate}
-use Rattle.model.specs.Limits.{maxJunctions, maxArcs, maxIntervals}
+use Rattle.model.specs.Limits.{maxJunctions}
 use Rattle.model.specs.Ticks.{day}
 use Rattle.model.specs.Network.{netOf}
 use Rattle.model.specs.Walks.{Net, Arrives, ArrivesWaiting}
@@ -16,16 +16,13 @@ use Rattle.reckoning.specs.Route.{routeAnswer}
 use Rattle.townfile.specs.FirstFault.{Reading, refusedAt, accepted}
 use Rattle.townfile.specs.Grammar.{Bytes, Town, Describes, networkOf}
 use Rattle.townfile.specs.Tables.{townOf}
-use Rattle.townfile.specs.Load.{Counts, Tables, tables, loadAnswer}
+use Rattle.townfile.specs.Load.{Counts, roomyTables, loadAnswer}
 
 -- A refusal's code is this and its number.
 abbrev pub hostRefused : ℕ
 hostRefused = 4294900000
 
--- The tables of its own, and the list for the route, as they are before anything is written.
-abbrev pub hostTables : Tables
-hostTables = tables (replicate maxIntervals 0) (replicate maxArcs 0) (replicate maxArcs 0) (replicate maxArcs 0) (replicate (maxArcs * maxIntervals) 0)
-
+-- The list for the route, before anything is written.
 abbrev pub hostList : List ℕ
 hostList = replicate maxJunctions 0
 
@@ -50,7 +47,7 @@ afterRoute (replied count) next = next
 unfoldable pub hostAnswer : List ℕ → ℕ → ℕ → ℕ → ℕ
 hostAnswer text source departure destination =
     let N = networkOf (townOf text) in
-    afterLoad (loadAnswer text hostTables) (afterRoute (routeAnswer N source departure destination hostList) (label N source departure destination))
+    afterLoad (loadAnswer text roomyTables) (afterRoute (routeAnswer N source departure destination hostList) (label N source departure destination))
 
 -- ---- What is proved of it
 

@@ -1,9 +1,8 @@
 // Host question: the destination's label in the town that a text describes, or a refusal's code.
 ghost use mathlib.Core.Path.{_≡_};
-ghost use Prim.Native.Nat.{_+_, _*_, _≤_};
-ghost use lib.ListN.{length, take};
-ghost use Rattle.model.specs.Network.{network};
+ghost use Prim.Native.Nat.{_+_};
 ghost use Rattle.model.specs.Refusals.{numberOf};
+ghost use Rattle.townfile.specs.Load.{counts, tables, LongEnough, networkAt};
 ghost use Rattle.loading.specs.Loads.{readingOf};
 ghost use Rattle.reckoning.specs.Route.{outcomeOf, arrivalOf, routeAnswer, routeArrival};
 ghost use Rattle.cabinet.specs.Host.{hostRefused, loadNumber, routeNumber, hostAnswer};
@@ -68,13 +67,9 @@ fn route_in_tables(
     destination: u32,
     list: &mut [u16],
 ) -> Routed
-    requires { ⌜ intervals ≤ length (now fences) ⌝ }
-    requires { ⌜ arcs ≤ length (now tails) ⌝ }
-    requires { ⌜ arcs ≤ length (now heads) ⌝ }
-    requires { ⌜ arcs ≤ length (now lengths) ⌝ }
-    requires { ⌜ arcs * intervals ≤ length (now speeds) ⌝ }
-    ensures answer { λ r. ⌜ outcomeOf r ≡ routeAnswer (network junctions (take intervals (now (fences .entry))) (take arcs (now (tails .entry))) (take arcs (now (heads .entry))) (take arcs (now (lengths .entry))) (take (arcs * intervals) (now (speeds .entry)))) source departure destination (now (list .entry)) ⌝ }
-    ensures arrival { λ r. ⌜ arrivalOf r ≡ routeArrival (network junctions (take intervals (now (fences .entry))) (take arcs (now (tails .entry))) (take arcs (now (heads .entry))) (take arcs (now (lengths .entry))) (take (arcs * intervals) (now (speeds .entry)))) source departure destination (now (list .entry)) ⌝ }
+    requires { ⌜ LongEnough (counts junctions intervals arcs) (tables (now fences) (now tails) (now heads) (now lengths) (now speeds)) ⌝ }
+    ensures answer { λ r. ⌜ outcomeOf r ≡ routeAnswer (networkAt (counts junctions intervals arcs) (tables (now (fences .entry)) (now (tails .entry)) (now (heads .entry)) (now (lengths .entry)) (now (speeds .entry)))) source departure destination (now (list .entry)) ⌝ }
+    ensures arrival { λ r. ⌜ arrivalOf r ≡ routeArrival (networkAt (counts junctions intervals arcs) (tables (now (fences .entry)) (now (tails .entry)) (now (heads .entry)) (now (lengths .entry)) (now (speeds .entry)))) source departure destination (now (list .entry)) ⌝ }
 {
     let speed_count = arcs * intervals;
     route(

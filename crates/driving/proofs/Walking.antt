@@ -5,7 +5,7 @@ use mathlib.Core.Path.{_≡_, refl, sym, _∙_}
 use mathlib.Core.Bool.{cond}
 use mathlib.Core.List.{List, [], _∷_}
 use mathlib.Core.Logic.{⊎-elim}
-use native.Mathlib.Nat.{le-refl, mul-le-mul, div-le-self}
+use native.Mathlib.Nat.{le-refl, div-le-self}
 use native.Mathlib.Numerals.{add-one}
 use native.Mathlib.Omega.{arith}
 use mir.Syntax.{w8, w32, w64}
@@ -20,12 +20,6 @@ use Rattle.model.proofs.Tests.{leb-cases}
 use Rattle.driving.proofs.Intervals.{ends-long}
 
 -- ---- What keeps the arithmetic within 64 bits
-
-pub product-fits : {n speed : ℕ} → Fits w32 n → Fits w8 speed → Fits w64 (n * speed)
-product-fits {n} {speed} wide byte =
-    let most : speed ≤ 255 = omega (arith, byte) in
-    let long : n ≤ 4294967295 = omega (arith, wide) in
-    omega (arith, mul-le-mul {n₂ = 4294967295} {m₂ = 255} long most)
 
 pub ticks-fit : (at left speed : ℕ) → at < 4294967296 → left ≤ 154618822656 → Fits w8 speed → Fits w64 (at + ticksFor left speed)
 ticks-fit at left speed wide short byte = omega (arith, div-le-self (left + (speed - 1)) speed, byte)

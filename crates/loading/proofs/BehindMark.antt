@@ -38,11 +38,11 @@ pub record BehindMark (text : List ℕ) (at : ℕ) : Type 0 where
   pub alone-is : markAlone (lineFrom text at) ≡ eqb (length (wordFrom text (at + 2))) 0
 
 -- The word and the fields of a line whose first two bytes are no spaces.
-past-two-word : (a b : ℕ) (line : List ℕ) → (a ≡ space → ⊥) → (b ≡ space → ⊥) → markAlone (a ∷ b ∷ line) ≡ eqb (length (upTo space line)) 0
+pub past-two-word : (a b : ℕ) (line : List ℕ) → (a ≡ space → ⊥) → (b ≡ space → ⊥) → markAlone (a ∷ b ∷ line) ≡ eqb (length (upTo space line)) 0
 unfolding upTo
 past-two-word a b line p q = rw (ne-eqb a space p, ne-eqb b space q) (eqb·suc-suc (suc (length (upTo space line))) 1 ∙ eqb·suc-suc (length (upTo space line)) 0)
 
-past-two-fields : (a b : ℕ) (line : List ℕ) → (a ≡ space → ⊥) → (b ≡ space → ⊥) → fieldsOf (a ∷ b ∷ line) ≡ drop 1 (pieces space line)
+pub past-two-fields : (a b : ℕ) (line : List ℕ) → (a ≡ space → ⊥) → (b ≡ space → ⊥) → fieldsOf (a ∷ b ∷ line) ≡ drop 1 (pieces space line)
 past-two-fields a b line p q = pieces-later space a (b ∷ line) (ne-eqb a space p) ∙ pieces-later space b line (ne-eqb b space q)
 
 module _ (text : List ℕ) (at : ℕ) (byte : getD text (at + 1) 0 < 256) where

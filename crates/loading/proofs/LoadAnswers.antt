@@ -2,23 +2,12 @@
 use mathlib.Core.Path.{_≡_, ap, _∙_}
 use mathlib.Core.Bool.{true, false}
 use mathlib.Core.List.{List}
-use Prim.Native.Nat.{ℕ, _*_, _≤_}
-use native.Mathlib.Nat.{mul-le-mul}
-use native.Mathlib.Omega.{arith}
-use mir.Val.{Fits}
-use mir.Syntax.{w32, w64}
+use Prim.Native.Nat.{ℕ}
 use Rattle.townfile.specs.Grammar.{networkOf}
 use Rattle.townfile.specs.FirstFault.{Reading, refusedAt, accepted, firstFault}
 use Rattle.townfile.specs.Tables.{townOf}
 use Rattle.townfile.specs.Load.{Counts, Tables, countsOf, tooShort, loadAnswer, holding, tablesAfter}
 use Rattle.townfile.specs.declared.progress.Progress.{Progress}
-
--- The product of two counts.
-pub product-fits : {a b : ℕ} → Fits w32 a → Fits w32 b → Fits w64 (a * b)
-product-fits {a} {b} p q =
-    let left : a ≤ 4294967295 = omega (arith, p) in
-    let right : b ≤ 4294967295 = omega (arith, q) in
-    omega (arith, mul-le-mul {n₂ = 4294967295} {m₂ = 4294967295} left right)
 
 -- An answer and what each table holds.
 pub record LoadEnds (text : List ℕ) (lent : Tables) (answer : Reading Counts) (after : Tables) : Type 0 where

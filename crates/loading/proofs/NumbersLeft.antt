@@ -107,7 +107,7 @@ pub no-bytes : (line : List ℕ) → eqb (length line) 0 ≡ true → line ≡ [
 no-bytes [] e = refl
 no-bytes (byte ∷ line) e = absurd (omega (arith, eqb-true (suc (length line)) 0 e))
 
-and-false : (a : Bool) → (a && false) ≡ false
+pub and-false : (a : Bool) → (a && false) ≡ false
 and-false true = refl
 and-false false = refl
 

@@ -11,6 +11,7 @@ pub mod Networks
 pub mod OnlyTables
 pub mod Passed
 pub mod Predecessors
+pub mod Products
 pub mod Routes
 pub mod Rules
 pub mod Tests

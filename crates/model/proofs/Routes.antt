@@ -9,7 +9,7 @@ use Rattle.model.specs.Ticks.{last, never}
 use Rattle.model.specs.Walks.{Net, Sound, Arrives}
 use Rattle.model.specs.Labels.{labelsOf, predecessorsOf, Certified}
 use Rattle.model.specs.Network.{netOf}
-use Rattle.model.specs.Routes.{arcsBack, routeOf, Driven, start, along, stops, DrivenIsWalk, RouteAttains, RouteIsShort, RoutePassesOnce, Demand2OfRoute}
+use Rattle.model.specs.Routes.{arcsBack, routeOf, start, along, stops, DrivenIsWalk, RouteAttains, RouteIsShort, RoutePassesOnce, Demand2OfRoute}
 use Rattle.model.proofs.Distinct.{distinct-differ}
 use Rattle.model.proofs.OnlyTables.{labels-certified}
 use Rattle.model.proofs.Trails.{Trail, arcs-back-source, trail-arcs-back, trail-driven, trail-distinct, trail-short, certified-trail}

@@ -3,7 +3,6 @@ use Prim.Native.Nat.{ℕ}
 use mathlib.Core.Bool.{cond}
 use mathlib.Core.Option.{Option, none, some}
 use lib.Dec.{leb}
-use Rattle.model.specs.declared.tick.Tick.{Tick}
 use Rattle.model.specs.declared.tick.Arrival.{Arrival}
 use Rattle.model.specs.declared.tick.Arrival.the-variants.{At, Never}
 

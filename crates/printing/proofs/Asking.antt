@@ -1,25 +1,25 @@
 -- The question's line, field by field: behind the mark stand two numbers, and behind the second the line ends.
-use Prim.Native.Nat.{ℕ, suc, _+_, _*_, _≤_, _<_}
+use Prim.Native.Nat.{ℕ, _+_, _*_, _≤_, _<_}
 use mathlib.Core.Path.{_≡_, refl, sym, ap, _∙_}
 use mathlib.Core.Bool.{Bool, true, false, cond, _&&_}
 use mathlib.Core.Logic.{inl, inr}
 use mathlib.Core.List.{List, [], _∷_}
 use native.Mathlib.Omega.{arith}
-use lib.Dec.{ltb, eqb, eqb·suc-suc}
+use lib.Dec.{ltb, eqb}
 use lib.ListN.{length, getD, drop}
 use borrow.Author.Tests.{eq-eqb, ne-eqb, lt-ltb, le-ltb}
 use Rattle.model.specs.Rules.{every}
 use Rattle.model.proofs.Tests.{eqb-cases}
 use Rattle.townfile.specs.Bytes.{lineFeed, space, upTo, pieces}
 use Rattle.townfile.specs.Numbers.{numberKeeps}
-use Rattle.townfile.specs.Lines.{markOf, markAlone, fieldsOf, numbersOf, numbersKeep}
+use Rattle.townfile.specs.Lines.{markOf, markAlone, numbersOf, numbersKeep}
 use Rattle.townfile.specs.Grammar.{Bytes}
-use Rattle.townfile.proofs.FieldForm.{pieces-later}
 use Rattle.loading.specs.Fields.{lineFrom, fieldAt, numbersFrom, filledBy}
 use Rattle.loading.specs.LineSteps.{numbersRead}
 use Rattle.loading.specs.declared.field.Field.the-variants as field
+use Rattle.loading.proofs.BehindMark.{past-two-word, past-two-fields}
 use Rattle.loading.proofs.LineFrom.{line-ends, line-feed-ends, line-goes-on}
-use Rattle.loading.proofs.NumbersLeft.{FieldRead, field-read, number-goes, end-behind, numbers-go-on, numbers-malformed, numbers-not-ended, numbers-within}
+use Rattle.loading.proofs.NumbersLeft.{and-false, FieldRead, field-read, number-goes, end-behind, numbers-go-on, numbers-malformed, numbers-not-ended, numbers-within}
 use Rattle.printing.specs.Question.{markQU, firstLine, asks, askedBy}
 use Rattle.printing.specs.declared.question.Asked.the-variants.{Question, Malformed}
 
@@ -38,8 +38,8 @@ pub marked-line : (rest : List ℕ) → QuestionLine (81 ∷ 85 ∷ rest)
 unfolding lineFrom upTo
 marked-line rest =
     let line = upTo lineFeed rest in
-    let fields : fieldsOf (81 ∷ 85 ∷ line) ≡ drop 1 (pieces space line) = pieces-later space 81 (85 ∷ line) refl ∙ pieces-later space 85 line refl in
-    let alone : markAlone (81 ∷ 85 ∷ line) ≡ eqb (length (upTo space line)) 0 = eqb·suc-suc (suc (length (upTo space line))) 1 ∙ eqb·suc-suc (length (upTo space line)) 0 in
+    let fields = past-two-fields 81 85 line (λ e. omega arith) (λ e. omega arith) in
+    let alone = past-two-word 81 85 line (λ e. omega arith) (λ e. omega arith) in
     record {
       long = omega arith;
       form = rw (alone, fields) (and-assoc (eqb (length (upTo space line)) 0) (every numberKeeps (drop 1 (pieces space line))) (eqb (length (drop 1 (pieces space line))) 2));
@@ -80,10 +80,6 @@ picked-second false one other differ e = refl
 picked-first : {A : Type 0} (test : Bool) (one other answer : A) → (answer ≡ other → ⊥) → answer ≡ cond test one other → test ≡ true
 picked-first true one other answer differ e = refl
 picked-first false one other answer differ e = absurd (differ e)
-
-and-false : (a : Bool) → (a && false) ≡ false
-and-false true = refl
-and-false false = refl
 
 not-asked : (input : List ℕ) → asks input ≡ false → Malformed ≡ askedBy input
 unfolding askedBy

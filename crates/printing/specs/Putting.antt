@@ -1,13 +1,11 @@
 -- What the parts of the program do, for their contracts inside the crate.
-use Prim.Native.Nat.{ℕ, _+_, _*_, _≤_, _<_}
+use Prim.Native.Nat.{ℕ, _+_, _≤_, _<_}
 use mathlib.Core.Path.{_≡_}
 use mathlib.Core.List.{List}
-use lib.ListN.{length, getD, take}
+use lib.ListN.{length, getD}
 use lib.Seq.{sets}
 use Rattle.model.specs.Labels.{noArc}
-use Rattle.model.specs.Network.{Network, network}
-use Rattle.model.specs.NetworkRules.{networkCheck}
-use Rattle.model.specs.Rules.{replied, written}
+use Rattle.model.specs.Rules.{written}
 use Rattle.printing.specs.Answer.{numberUnless}
 
 -- Bytes are put from a place of the buffer on; the answer is the place behind them.
@@ -25,16 +23,3 @@ pub record Printable (labels predecessors : List ℕ) : Type 0 where
   pub same-length : length predecessors ≡ length labels
   pub few : length labels ≤ 200
   pub short : (j : ℕ) → j < length labels → length (numberUnless noArc (getD predecessors j 0)) ≤ 3
-
--- The network that the tables begin with.
-abbrev pub networkAt : ℕ → ℕ → ℕ → List ℕ → List ℕ → List ℕ → List ℕ → List ℕ → Network
-networkAt junctions intervals arcs fences tails heads lengths speeds =
-    network junctions (take intervals fences) (take arcs tails) (take arcs heads) (take arcs lengths) (take (arcs * intervals) speeds)
-
-pub record Lendable (junctions intervals arcs : ℕ) (fences tails heads lengths speeds : List ℕ) : Type 0 where
-  pub fences-long : intervals ≤ length fences
-  pub tails-long : arcs ≤ length tails
-  pub heads-long : arcs ≤ length heads
-  pub lengths-long : arcs ≤ length lengths
-  pub speeds-long : arcs * intervals ≤ length speeds
-  pub checked : networkCheck (networkAt junctions intervals arcs fences tails heads lengths speeds) ≡ replied tt

@@ -5,9 +5,10 @@ ghost use lib.ListN.{length, take};
 ghost use Rattle.model.specs.Network.{network};
 ghost use Rattle.model.specs.NetworkRules.{networkCheck};
 ghost use Rattle.model.specs.Rules.{replied, written};
+ghost use Rattle.townfile.specs.Load.{counts, tables, LongEnough, networkAt};
 ghost use Rattle.reckoning.specs.Labels.{outcomeOf, labelsAnswer, labelsAfter, predecessorsAfter};
 ghost use Rattle.printing.specs.Answer.{textOf, tableText, networkAnswer, townAnswer, arrivalsText};
-ghost use Rattle.printing.specs.Putting.{Printed, Printable, networkAt, Lendable};
+ghost use Rattle.printing.specs.Putting.{Printed, Printable};
 use crate::put::put_refusal;
 use crate::question::Asked;
 use crate::question::question;
@@ -120,8 +121,9 @@ fn loaded_arrivals(
     departure: u32,
     output: &mut [u8; 4096],
 ) -> usize
-    requires { ⌜ Lendable junctions intervals arcs (now fences) (now tails) (now heads) (now lengths) (now speeds) ⌝ }
-    ensures { λ r. ⌜ Printed (textOf (networkAnswer (networkAt junctions intervals arcs (now (fences .entry)) (now (tails .entry)) (now (heads .entry)) (now (lengths .entry)) (now (speeds .entry))) source departure)) (now (output .entry)) (now (output .exit)) r ⌝ }
+    requires { ⌜ LongEnough (counts junctions intervals arcs) (tables (now fences) (now tails) (now heads) (now lengths) (now speeds)) ⌝ }
+    requires { ⌜ networkCheck (networkAt (counts junctions intervals arcs) (tables (now fences) (now tails) (now heads) (now lengths) (now speeds))) ≡ replied tt ⌝ }
+    ensures { λ r. ⌜ Printed (textOf (networkAnswer (networkAt (counts junctions intervals arcs) (tables (now (fences .entry)) (now (tails .entry)) (now (heads .entry)) (now (lengths .entry)) (now (speeds .entry)))) source departure)) (now (output .entry)) (now (output .exit)) r ⌝ }
 {
     let width = intervals as usize;
     let count = arcs as usize;

@@ -3,6 +3,7 @@ pub mod Comments
 pub mod Described
 pub mod FieldForm
 pub mod Gathered
+pub mod Held
 pub mod Joined
 pub mod Kept
 pub mod Lacks

@@ -33,7 +33,7 @@ all-false a b c d e h =
     (first .0, first .1, third .1, fourth .1, fifth .1)
 
 module _ (T : Town) (lent : Tables) where
-  fits-long : tooShort (countsOfTown T) lent ≡ false → LongEnough (networkOf T) lent
+  fits-long : tooShort (countsOfTown T) lent ≡ false → LongEnough (countsOfTown T) lent
   fits-long e =
       let N = networkOf T in
       let all = all-false _ _ _ _ _ e in
@@ -45,7 +45,7 @@ module _ (T : Town) (lent : Tables) where
         speeds-long = ltb-false (length (lent .speeds)) (arcs N * intervals N) (all .4);
       }
 
-  pub long-fits : LongEnough (networkOf T) lent → tooShort (countsOfTown T) lent ≡ false
+  pub long-fits : LongEnough (countsOfTown T) lent → tooShort (countsOfTown T) lent ≡ false
   long-fits long =
       let N = networkOf T in
       both-false

@@ -6,8 +6,9 @@ use mathlib.Core.Bool.{Bool, cond, _||_}
 use mathlib.Core.Logic.{_↔_}
 use mathlib.Core.List.{List}
 use lib.Dec.{ltb}
-use lib.ListN.{length}
-use Rattle.model.specs.Network.{Network, arcs, intervals}
+use lib.ListN.{length, take, replicate}
+use Rattle.model.specs.Limits.{maxArcs, maxIntervals}
+use Rattle.model.specs.Network.{Network, network, arcs, intervals}
 use Rattle.model.specs.Rules.{written}
 use Rattle.townfile.specs.Grammar.{Bytes, Town, Describes, networkOf}
 use Rattle.townfile.specs.FirstFault.{Reading, refusedAt, accepted, firstFault}
@@ -34,6 +35,23 @@ tables fences tails heads lengths speeds = record { fences = fences; tails = tai
 
 abbrev pub countsOf : Progress → Counts
 countsOf p = counts (p .junctions) (p .intervals) (p .arcs)
+
+-- Each table has room for its own entries: the plain statement of what `tooShort` tests.
+pub record LongEnough (asked : Counts) (lent : Tables) : Type 0 where
+  pub fences-long : asked .intervals ≤ length (lent .fences)
+  pub tails-long : asked .arcs ≤ length (lent .tails)
+  pub heads-long : asked .arcs ≤ length (lent .heads)
+  pub lengths-long : asked .arcs ≤ length (lent .lengths)
+  pub speeds-long : asked .arcs * asked .intervals ≤ length (lent .speeds)
+
+-- Tables of zeros with room for every town.
+abbrev pub roomyTables : Tables
+roomyTables = tables (replicate maxIntervals 0) (replicate maxArcs 0) (replicate maxArcs 0) (replicate maxArcs 0) (replicate (maxArcs * maxIntervals) 0)
+
+-- The network at the tables' start, of as many entries as the counts say.
+abbrev pub networkAt : Counts → Tables → Network
+networkAt asked held =
+    network (asked .junctions) (take (asked .intervals) (held .fences)) (take (asked .arcs) (held .tails)) (take (asked .arcs) (held .heads)) (take (asked .arcs) (held .lengths)) (take (asked .arcs * asked .intervals) (held .speeds))
 
 abbrev pub tooShort : Counts → Tables → Bool
 tooShort asked lent =
@@ -65,13 +83,6 @@ tablesAfter text lent = afterReading (loadAnswer text lent) (holding (networkOf 
 
 -- ---- What is proved of it
 
-pub record LongEnough (N : Network) (lent : Tables) : Type 0 where
-  pub fences-long : intervals N ≤ length (lent .fences)
-  pub tails-long : arcs N ≤ length (lent .tails)
-  pub heads-long : arcs N ≤ length (lent .heads)
-  pub lengths-long : arcs N ≤ length (lent .lengths)
-  pub speeds-long : arcs N * intervals N ≤ length (lent .speeds)
-
 abbrev pub countsOfTown : Town → Counts
 countsOfTown T = counts (T .junctions) (intervals (networkOf T)) (arcs (networkOf T))
 
@@ -80,4 +91,4 @@ countsOfTown T = counts (T .junctions) (intervals (networkOf T)) (arcs (networkO
 abbrev pub LoadAcceptsWhenDescribed : Type 0
 LoadAcceptsWhenDescribed = (text : List ℕ) → Bytes text → (lent : Tables) (reply : Counts) →
     (loadAnswer text lent ≡ accepted reply)
-    ↔ ((T : Town) × Describes text T × LongEnough (networkOf T) lent × (reply ≡ countsOfTown T) × (tablesAfter text lent ≡ holding (networkOf T) lent))
+    ↔ ((T : Town) × Describes text T × LongEnough (countsOfTown T) lent × (reply ≡ countsOfTown T) × (tablesAfter text lent ≡ holding (networkOf T) lent))

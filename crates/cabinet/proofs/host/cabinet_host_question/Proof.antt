@@ -11,9 +11,10 @@ use Rattle.reckoning.specs.Route.{outcomeOf, arrivalOf, routeAnswer, routeArriv
 use Rattle.townfile.specs.FirstFault.{accepted}
 use Rattle.townfile.specs.Grammar.{Bytes, networkOf}
 use Rattle.townfile.specs.Tables.{townOf}
-use Rattle.townfile.specs.Load.{Counts, counts, Tables, tables, loadAnswer}
-use Rattle.cabinet.specs.Host.{hostTables, hostList}
-use Rattle.cabinet.proofs.HostSteps.{Stands, loaded-stands, same-tables, load-refuses, route-refuses, route-arrives}
+use Rattle.townfile.specs.Load.{Counts, counts, Tables, tables, roomyTables, loadAnswer}
+use Rattle.townfile.proofs.Held.{Stands, loaded-stands, same-tables}
+use Rattle.cabinet.specs.Host.{hostList}
+use Rattle.cabinet.proofs.HostSteps.{load-refuses, route-refuses, route-arrives}
 use Rattle.cabinet.proofs.host.cabinet_host_question.Statement.{statement}
 use Rattle.cabinet.proofs.host.cabinet_host_question.Tie as tie
 
@@ -28,7 +29,7 @@ loading c = c .before .before .before .before .before .before .before .before
 abbrev reply : tie.After-known-told → Counts
 reply c = let fields = c .before .loaded .given .0 in counts (fields .0) (fields .1 .0) (fields .1 .1 .0)
 
-loaded : (c : tie.After-known-told) → accepted (reply c) ≡ loadAnswer (now (start (loading c) .args .text)) hostTables
+loaded : (c : tie.After-known-told) → accepted (reply c) ≡ loadAnswer (now (start (loading c) .args .text)) roomyTables
 loaded c = sym (ap readingOf (c .before .loaded .given .1)) ∙ loading c .load .ensures .0
 
 bytes : (c : tie.After-load) → Bytes (now (start c .args .text))
@@ -70,8 +71,7 @@ returns c =
 
 route-in-tables-requires : tie.Need-route-in-tables-requires
 route-in-tables-requires c κs =
-    let s = stands (c .before .before .before .before .before .before) in
-    (s .fences-long, (s .tails-long, (s .heads-long, (s .lengths-long, s .speeds-long))))
+    stands (c .before .before .before .before .before .before) .long
 
 returns-2 : tie.Need-returns-2
 returns-2 c =

@@ -1,6 +1,6 @@
 -- `load::lacks_room`: each flag is the definition's test.
 use borrow.Author.Needs.{needs}
-use Rattle.loading.proofs.LoadAnswers.{product-fits}
+use Rattle.model.proofs.Products.{product-fits}
 use Rattle.loading.proofs.load.lacks_room.Statement.{statement}
 use Rattle.loading.proofs.load.lacks_room.Tie as tie
 

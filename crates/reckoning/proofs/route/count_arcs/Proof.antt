@@ -5,7 +5,7 @@ use lib.ListN.{length, getD}
 use mir.Facts.{fits-widen}
 use denote.Ref.{now}
 use Rattle.reckoning.specs.Following.{backFrom}
-use Rattle.reckoning.proofs.Following.{arcs-back-at-most, Step, Counting, counting-starts, counting-step, counting-more, counting-goes-on, counting-ends}
+use Rattle.reckoning.proofs.Following.{arcs-back-at-most, Counting, counting-starts, counting-step, counting-more, counting-goes-on, counting-ends}
 use Rattle.reckoning.proofs.route.count_arcs.Statement.{statement}
 use Rattle.reckoning.proofs.route.count_arcs.Tie as tie
 

@@ -7,7 +7,7 @@ use lib.ListN.{length-reverse}
 use mir.Facts.{fits-widen}
 use denote.Ref.{now}
 use Rattle.reckoning.specs.Following.{backFrom}
-use Rattle.reckoning.proofs.Following.{Step, Writing, writing-starts, writing-step, writing-goes-on, writing-ends}
+use Rattle.reckoning.proofs.Following.{Writing, writing-starts, writing-step, writing-goes-on, writing-ends}
 use Rattle.reckoning.proofs.route.write_arcs.Statement.{statement}
 use Rattle.reckoning.proofs.route.write_arcs.Tie as tie
 

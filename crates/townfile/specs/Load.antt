@@ -53,13 +53,14 @@ abbrev pub networkAt : Counts → Tables → Network
 networkAt asked held =
     network (asked .junctions) (take (asked .intervals) (held .fences)) (take (asked .arcs) (held .tails)) (take (asked .arcs) (held .heads)) (take (asked .arcs) (held .lengths)) (take (asked .arcs * asked .intervals) (held .speeds))
 
+-- Lengths of tables that are too small for their own entries.
+abbrev pub lacksRoom : ℕ → ℕ → ℕ → ℕ → ℕ → ℕ → ℕ → Bool
+lacksRoom intervals arcs fences tails heads lengths speeds =
+    ltb fences intervals || ltb tails arcs || ltb heads arcs || ltb lengths arcs || ltb speeds (arcs * intervals)
+
 abbrev pub tooShort : Counts → Tables → Bool
 tooShort asked lent =
-    ltb (length (lent .fences)) (asked .intervals)
-    || ltb (length (lent .tails)) (asked .arcs)
-    || ltb (length (lent .heads)) (asked .arcs)
-    || ltb (length (lent .lengths)) (asked .arcs)
-    || ltb (length (lent .speeds)) (asked .arcs * asked .intervals)
+    lacksRoom (asked .intervals) (asked .arcs) (length (lent .fences)) (length (lent .tails)) (length (lent .heads)) (length (lent .lengths)) (length (lent .speeds))
 
 abbrev pub intoTables : Reading Progress → Tables → Reading Counts
 intoTables (refusedAt number line) lent = refusedAt number line

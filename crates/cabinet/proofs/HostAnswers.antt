@@ -20,7 +20,7 @@ use Rattle.model.specs.Rules.{Outcome, refused, replied, Rule, _if_, AllKept}
 use Rattle.model.proofs.Demands.{demand-2}
 use Rattle.model.proofs.NetworkRules.{accepts-when-kept}
 use Rattle.model.proofs.Rules.{refused-exactly-when, replies-kept, kept-before}
-use Rattle.reckoning.specs.Question.{startRules}
+use Rattle.checking.specs.Question.{startRules}
 use Rattle.reckoning.specs.Route.{Routable, destinationRules, foundRules, routeAnswer}
 use Rattle.reckoning.proofs.RouteRules.{route-replies-when-routable, room-for-every-route}
 use Rattle.townfile.specs.FirstFault as fault

@@ -21,8 +21,8 @@ use Rattle.model.proofs.NetworkRules.{accepts-when-kept}
 use Rattle.model.proofs.Rules.{replies-kept, every-at}
 use Rattle.reckoning.specs.Labelling.{Labelable}
 use Rattle.reckoning.proofs.LabelRules.{labels-replies-when-labelable}
-use Rattle.reckoning.specs.ArcArrival.{arcRules}
-use Rattle.reckoning.proofs.ArcRules.{kept-accepted, replies}
+use Rattle.driving.specs.ArcArrival.{arcRules}
+use Rattle.driving.proofs.ArcRules.{kept-accepted, replies}
 use Rattle.townfile.specs.Bytes.{upTo, onFirst, pieces}
 use Rattle.townfile.specs.Numbers.{decimalFrom, numberKeeps}
 use Rattle.townfile.specs.Lines.{markOf, nameKeeps, formKeeps, valuesKeep, lineRead, lineAnswer}

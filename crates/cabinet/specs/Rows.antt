@@ -6,7 +6,7 @@ use mathlib.Core.Option.{Option, none, some}
 use lib.ListN.{length}
 use Rattle.model.specs.Network.{Network}
 use Rattle.model.specs.Rules.{replied}
-use Rattle.reckoning.specs.ArcArrival.{arcArrival}
+use Rattle.driving.specs.ArcArrival.{arcArrival}
 use Rattle.reckoning.specs.Labels.{labelsAnswer, labelsAfter}
 use Rattle.townfile.specs.Grammar.{Town, Describes, networkOf, joined}
 use Rattle.townfile.specs.FirstFault.{refusedAt}

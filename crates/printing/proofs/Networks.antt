@@ -19,7 +19,7 @@ use Rattle.model.proofs.Predecessors.{length-tabulate, getD-tabulate}
 use Rattle.model.proofs.Rules.{kept-before, refused-before, kept-replies, replies-kept}
 use Rattle.model.proofs.Within.{within-length}
 use Rattle.townfile.specs.FirstFault.{refusedAt, accepted}
-use Rattle.reckoning.specs.Question.{startRules}
+use Rattle.checking.specs.Question.{startRules}
 use Rattle.reckoning.specs.Labels.{bufferRules, labelsAnswer, labelsAfter, predecessorsAfter}
 use Rattle.printing.specs.Answer.{numberUnless, tableText, arrivalsIn, atLineZero, networkAnswer}
 use Rattle.printing.specs.Putting.{Printed, Printable}

@@ -15,7 +15,7 @@ use Rattle.townfile.specs.FirstFault.{Reading, refusedAt, accepted, firstFault}
 use Rattle.townfile.specs.Grammar.{networkOf}
 use Rattle.townfile.specs.Tables.{townOf}
 use Rattle.townfile.specs.declared.progress.Progress.{Progress}
-use Rattle.reckoning.specs.Question.{startRules}
+use Rattle.checking.specs.Question.{startRules}
 use Rattle.printing.specs.Digits.{digitsOf}
 use Rattle.printing.specs.Question.{asks, sourceIn, departureIn, townIn}
 

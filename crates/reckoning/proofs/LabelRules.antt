@@ -13,8 +13,8 @@ use Rattle.model.specs.Rules.{AllKept, Outcome, refused, replied, Rule, firstBr
 use Rattle.model.proofs.Demands.{demand-2, demand-3, only-tables-of-network}
 use Rattle.model.proofs.Rules.{kept-replies, replies-kept, refused-at, refused-before, kept-before, kept-append, both-true, true-both}
 use Rattle.reckoning.specs.Labelling.{Labelable}
-use Rattle.reckoning.specs.Question.{questionRules, questionCheck}
-use Rattle.reckoning.proofs.QuestionRules.{kept-taken, taken-kept}
+use Rattle.checking.specs.Question.{questionRules, questionCheck}
+use Rattle.checking.proofs.QuestionRules.{kept-taken, taken-kept}
 use Rattle.reckoning.specs.Labels.{bufferRules, labelsAnswer, labelsAfter, predecessorsAfter, LabelsRepliesWhenLabelable, Demand2OfCall, Demand3OfCalls}
 
 module _ (N : Network) (source departure : ℕ) (labels predecessors : List ℕ) where

@@ -1,14 +1,9 @@
-pub mod ArcKept
-pub mod ArcRules
-pub mod EndsScan
 pub mod Filled
-pub mod Flags
 pub mod Following
 pub mod LabelRules
 pub mod Linking
 pub mod Nearing
 pub mod Offered
-pub mod QuestionRules
 pub mod RouteRules
 pub mod Settling
 pub mod Turns

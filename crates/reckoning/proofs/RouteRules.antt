@@ -23,8 +23,8 @@ use Rattle.model.proofs.Routes.{allBack, route-reverses, whole, demand-2-of-rou
 use Rattle.model.proofs.Trails.{Trail, here, back}
 use Rattle.model.proofs.Rules.{kept-replies, replies-kept, refused-at, refused-before, kept-before, kept-append}
 use Rattle.reckoning.specs.Following.{backFrom, Leads, foundAnswer, foundArrival, foundAfter}
-use Rattle.reckoning.specs.Question.{questionRules, questionCheck}
-use Rattle.reckoning.proofs.QuestionRules.{kept-taken, taken-kept}
+use Rattle.checking.specs.Question.{questionRules, questionCheck}
+use Rattle.checking.proofs.QuestionRules.{kept-taken, taken-kept}
 use Rattle.reckoning.specs.Route.{destinationRules, foundRules, routeAnswer, routeArrival, arcsAfter, Routable, RouteRepliesWhenRoutable, Demand2OfRouteCall, RoomForEveryRoute}
 use Rattle.reckoning.proofs.Turns.{getD-inside}
 

@@ -17,9 +17,9 @@ use Rattle.model.specs.Network.{Network, Accepted, arcs, intervals, driveOf, ne
 use Rattle.model.specs.Labels.{noArc, labelsOf, predecessorsOf}
 use Rattle.model.proofs.Networks.{accepted-sound}
 use Rattle.model.proofs.Tests.{ltb-cases, eqb-cases}
-use Rattle.reckoning.specs.ArcKept.{ArcKept}
+use Rattle.driving.specs.ArcKept.{ArcKept}
 use Rattle.reckoning.specs.Labelling.{arcFrom, Linked, Nearest, lowered, taken, Offerable, Labelable}
-use Rattle.reckoning.proofs.Flags.{true-not-false}
+use Rattle.driving.proofs.Flags.{true-not-false}
 use Rattle.reckoning.proofs.Linking.{arc-from, arc-from-least}
 use Rattle.reckoning.proofs.Settling.{Settling, settling-starts, settling-weakens, settle, settled-label-stays, offer-keeps, offer-skips, offer-lowers, offer-ties, settling-ends}
 

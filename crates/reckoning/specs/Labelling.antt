@@ -10,7 +10,7 @@ use Rattle.model.specs.Ticks.{day, never}
 use Rattle.model.specs.Limits.{maxJunctions, maxArcs, maxIntervals}
 use Rattle.model.specs.Labels.{noArc}
 use Rattle.model.specs.Network.{Network, Accepted, arcSpeeds}
-use Rattle.reckoning.specs.ArcKept.{ArcKept}
+use Rattle.driving.specs.ArcKept.{ArcKept}
 
 -- ---- The arcs of a tail
 

@@ -16,7 +16,7 @@ use Rattle.model.specs.Demands.{Improves}
 use Rattle.model.specs.Refusals.{numberOf}
 use Rattle.model.specs.Rules.{Outcome, refused, replied, Rule, _if_, firstBroken, after}
 use Rattle.reckoning.specs.Labelling.{Labelable}
-use Rattle.reckoning.specs.Question.{questionRules}
+use Rattle.checking.specs.Question.{questionRules}
 use Rattle.reckoning.specs.declared.labels.Labelled.{Labelled}
 use Rattle.reckoning.specs.declared.labels.Labelled.the-variants.{Written, Refused}
 

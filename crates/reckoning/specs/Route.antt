@@ -15,7 +15,7 @@ use Rattle.model.specs.Demands.{label}
 use Rattle.model.specs.Routes.{routeOf, Driven}
 use Rattle.model.specs.Refusals.{numberOf}
 use Rattle.model.specs.Rules.{Outcome, refused, replied, Rule, _if_, firstBroken, after, written}
-use Rattle.reckoning.specs.Question.{questionRules}
+use Rattle.checking.specs.Question.{questionRules}
 use Rattle.reckoning.specs.declared.route.Routed.{Routed}
 use Rattle.reckoning.specs.declared.route.Routed.the-variants.{Arcs, Refused}
 

@@ -3,8 +3,8 @@ ghost use mathlib.Core.Path.{_≡_};
 ghost use Rattle.model.specs.Network.{network};
 ghost use Rattle.reckoning.specs.Labels.{outcomeOf, labelsAnswer, labelsAfter, predecessorsAfter};
 use crate::labelling::label_all;
-use crate::network::NetworkCheck;
-use crate::question::question_check;
+use checking::network::NetworkCheck;
+use checking::question::question_check;
 use model::refusal::Refusal;
 use model::tick::Tick;
 

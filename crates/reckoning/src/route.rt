@@ -9,8 +9,8 @@ ghost use Rattle.reckoning.specs.Following.{backFrom, Leads, foundAnswer
 ghost use Rattle.reckoning.specs.Labelling.{Labelable};
 ghost use Rattle.reckoning.specs.Route.{outcomeOf, arrivalOf, routeAnswer, routeArrival, arcsAfter};
 use crate::labelling::label_all;
-use crate::network::NetworkCheck;
-use crate::question::question_check;
+use checking::network::NetworkCheck;
+use checking::question::question_check;
 use model::label::NO_ARC;
 use model::label::UNREACHED;
 use model::limit::MAX_JUNCTIONS;

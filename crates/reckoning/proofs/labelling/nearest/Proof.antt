@@ -5,7 +5,7 @@ use mathlib.Core.Logic.{⊎-elim}
 use native.Mathlib.Omega.{arith}
 use lib.ListN.{length}
 use borrow.Author.Tests.{not-true, not-false}
-use Rattle.reckoning.proofs.Flags.{true-not-false}
+use Rattle.driving.proofs.Flags.{true-not-false}
 use Rattle.reckoning.proofs.Nearing.{Nearing, nearing-starts, passes, improves, nearing-ends, least-at-most}
 use Rattle.reckoning.proofs.labelling.nearest.Statement.{statement}
 use Rattle.reckoning.proofs.labelling.nearest.Tie as tie

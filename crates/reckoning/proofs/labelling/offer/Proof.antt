@@ -13,7 +13,7 @@ use Rattle.model.specs.Intervals.{walkFrom}
 use Rattle.model.proofs.Arrival.{arrival-by-last}
 use Rattle.model.specs.Network.{arrivalOn}
 use Rattle.reckoning.specs.Labelling.{labelOf}
-use Rattle.reckoning.proofs.ArcKept.{walk-is-arc-arrival}
+use Rattle.driving.proofs.ArcKept.{walk-is-arc-arrival}
 use Rattle.reckoning.proofs.Offered.{label-of-tick, leaves-lower, leaves-unreached, leaves-tie, leaves-tie-kept, leaves-later}
 use Rattle.reckoning.proofs.labelling.offer.Statement.{statement}
 use Rattle.reckoning.proofs.labelling.offer.Tie as tie

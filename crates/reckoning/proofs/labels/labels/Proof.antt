@@ -10,8 +10,8 @@ use borrow.Author.Tests.{eq-eqb, ne-eqb}
 use Rattle.model.specs.Network.{Network, network}
 use Rattle.model.specs.Rules.{AllKept}
 use Rattle.model.proofs.Rules.{replies-kept}
-use Rattle.reckoning.specs.NetworkCheck.{outcomeOf}
-use Rattle.reckoning.specs.Question.{questionRules, questionCheck}
+use Rattle.checking.specs.NetworkCheck.{outcomeOf}
+use Rattle.checking.specs.Question.{questionRules, questionCheck}
 use Rattle.reckoning.specs.Labels.{bufferRules}
 use Rattle.reckoning.proofs.LabelRules.{question-refuses, buffers-refuse, replies, kept-labelable, ends-written}
 use Rattle.reckoning.proofs.labels.labels.Statement.{statement}

@@ -13,9 +13,9 @@ use Rattle.model.specs.Labels.{noArc}
 use Rattle.model.specs.Network.{Network, network}
 use Rattle.model.specs.Rules.{AllKept}
 use Rattle.model.proofs.Rules.{replies-kept}
-use Rattle.reckoning.specs.NetworkCheck.{outcomeOf}
-use Rattle.reckoning.specs.Question.{questionRules, questionCheck}
-use Rattle.reckoning.proofs.QuestionRules.{Taken, kept-taken}
+use Rattle.checking.specs.NetworkCheck.{outcomeOf}
+use Rattle.checking.specs.Question.{questionRules, questionCheck}
+use Rattle.checking.proofs.QuestionRules.{Taken, kept-taken}
 use Rattle.reckoning.proofs.RouteRules.{question-refuses, destination-refuses, found-ends}
 use Rattle.reckoning.proofs.route.route.Statement.{statement}
 use Rattle.reckoning.proofs.route.route.Tie as tie

@@ -1,12 +1,12 @@
 // Arc arrival: when a vehicle that leaves an arc's tail at a tick reaches its head.
 ghost use mathlib.Core.Path.{_≡_};
-ghost use Rattle.reckoning.specs.ArcArrival.{arcArrival, outcomeOf};
-use driving::drive::drive;
-use driving::drive::fences_passed;
-use driving::rule::fences_keep;
-use driving::rule::interval_count_keeps;
-use driving::rule::length_keeps;
-use driving::rule::speeds_keep;
+ghost use Rattle.driving.specs.ArcArrival.{arcArrival, outcomeOf};
+use crate::drive::drive;
+use crate::drive::fences_passed;
+use crate::rule::fences_keep;
+use crate::rule::interval_count_keeps;
+use crate::rule::length_keeps;
+use crate::rule::speeds_keep;
 use model::refusal::Refusal;
 use model::tick::Arrival;
 use model::tick::Tick;

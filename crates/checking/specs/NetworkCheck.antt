@@ -1,8 +1,8 @@
 -- What Network check answers: that the network is accepted, or the number of its refusal.
 use Rattle.model.specs.Refusals.{numberOf}
 use Rattle.model.specs.Rules.{Outcome, refused, replied}
-use Rattle.reckoning.specs.declared.network.NetworkCheck.{NetworkCheck}
-use Rattle.reckoning.specs.declared.network.NetworkCheck.the-variants.{Accepted, Refused}
+use Rattle.checking.specs.declared.network.NetworkCheck.{NetworkCheck}
+use Rattle.checking.specs.declared.network.NetworkCheck.the-variants.{Accepted, Refused}
 
 abbrev pub outcomeOf : NetworkCheck → Outcome (Unit {0})
 outcomeOf Accepted = replied tt

@@ -11,7 +11,7 @@ use Rattle.model.specs.NetworkRules.{networkRules, networkCheck}
 use Rattle.model.specs.Rules.{AllKept, refused, replied, _if_}
 use Rattle.model.proofs.NetworkRules.{kept-accepted, accepted-kept}
 use Rattle.model.proofs.Rules.{kept-replies, refused-at, refused-before, kept-before, kept-append, append-kept}
-use Rattle.reckoning.specs.Question.{startRules, questionRules, questionCheck}
+use Rattle.checking.specs.Question.{startRules, questionRules, questionCheck}
 
 pub record Taken (N : Network) (source departure : ℕ) : Type 0 where
   pub accepted : Accepted N

@@ -2,7 +2,7 @@
 ghost use mathlib.Core.Path.{_≡_};
 ghost use Rattle.model.specs.Network.{network};
 ghost use Rattle.model.specs.NetworkRules.{networkCheck};
-ghost use Rattle.reckoning.specs.NetworkCheck.{outcomeOf};
+ghost use Rattle.checking.specs.NetworkCheck.{outcomeOf};
 use crate::check::ends_keep;
 use crate::check::junction_count_keeps;
 use crate::check::tables_agree;

@@ -10,11 +10,11 @@ use Rattle.model.specs.Network.{Network, network}
 use Rattle.model.specs.NetworkRules.{networkRules, networkCheck}
 use Rattle.model.specs.Rules.{AllKept, Rule}
 use Rattle.model.proofs.Rules.{kept-next, replies-kept}
-use Rattle.reckoning.specs.NetworkCheck.{outcomeOf}
-use Rattle.reckoning.specs.Question.{startRules}
-use Rattle.reckoning.proofs.QuestionRules.{network-refuses, start-refuses, taken-replies}
-use Rattle.reckoning.proofs.question.question_check.Statement.{statement}
-use Rattle.reckoning.proofs.question.question_check.Tie as tie
+use Rattle.checking.specs.NetworkCheck.{outcomeOf}
+use Rattle.checking.specs.Question.{startRules}
+use Rattle.checking.proofs.QuestionRules.{network-refuses, start-refuses, taken-replies}
+use Rattle.checking.proofs.question.question_check.Statement.{statement}
+use Rattle.checking.proofs.question.question_check.Tie as tie
 
 abbrev N : tie.Start → Network
 N s = network (s .args .junctions) (now (s .args .fences)) (now (s .args .tails)) (now (s .args .heads)) (now (s .args .lengths)) (now (s .args .speeds))

@@ -12,7 +12,7 @@ use Rattle.model.specs.Flow.{spansOf, arrival}
 use Rattle.model.specs.Intervals.{speedAt}
 use Rattle.model.specs.Rules.{AllKept, replied, every, fencesKeep, lengthKeeps, speedKeeps}
 use Rattle.model.proofs.Rules.{kept-replies, replies-kept, kept-count, count-kept, kept-length, length-kept, every-at, at-every, fences-kept, kept-fences}
-use Rattle.reckoning.specs.ArcArrival.{arcRules, arcArrival, ArcAccepted, ArcRepliesWhenAccepted}
+use Rattle.driving.specs.ArcArrival.{arcRules, arcArrival, ArcAccepted, ArcRepliesWhenAccepted}
 
 module _ (departure metres : ℕ) (fences speeds : List ℕ) where
   pub kept-accepted : AllKept (arcRules departure metres fences speeds) → ArcAccepted departure metres fences speeds

@@ -7,8 +7,8 @@ use mir.Val.{Fits}
 use native.Mathlib.Nat.{mul-le-mul}
 use native.Mathlib.Omega.{arith}
 use borrow.Author.Tests.{eq-eqb, ne-eqb}
-use Rattle.reckoning.proofs.check.tables_agree.Statement.{statement}
-use Rattle.reckoning.proofs.check.tables_agree.Tie as tie
+use Rattle.checking.proofs.check.tables_agree.Statement.{statement}
+use Rattle.checking.proofs.check.tables_agree.Tie as tie
 
 short-product : (m n : ℕ) → m ≤ 640 → n ≤ 640 → Fits w64 (m * n)
 short-product m n p q = omega (arith, mul-le-mul {n₂ = 640} {m₂ = 640} p q)

@@ -1,14 +1,14 @@
 // The rules that Labels and Route ask first: the network's own, and those on the source and the departure.
 ghost use mathlib.Core.Path.{_≡_};
 ghost use Rattle.model.specs.Network.{network};
-ghost use Rattle.reckoning.specs.NetworkCheck.{outcomeOf};
-ghost use Rattle.reckoning.specs.Question.{questionCheck};
+ghost use Rattle.checking.specs.NetworkCheck.{outcomeOf};
+ghost use Rattle.checking.specs.Question.{questionCheck};
 use crate::network::NetworkCheck;
 use crate::network::network_check;
 use model::refusal::Refusal;
 use model::tick::Tick;
 
-pub(crate) fn question_check(
+pub fn question_check(
     junctions: u32,
     fences: &[u32],
     tails: &[u16],

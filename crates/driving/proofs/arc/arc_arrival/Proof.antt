@@ -14,13 +14,13 @@ use Rattle.model.specs.Ticks.{tick?, arrivedAt}
 use Rattle.model.specs.Intervals.{passed}
 use Rattle.model.proofs.Rules.{kept-next, refused-at}
 use Rattle.model.proofs.IntervalWalk.{some-passed}
-use Rattle.reckoning.specs.ArcArrival.{arcRules, arcArrival, ArcAccepted}
-use Rattle.reckoning.specs.ArcKept.{ArcKept}
-use Rattle.reckoning.proofs.ArcRules.{kept-accepted, replies}
-use Rattle.reckoning.proofs.ArcKept.{walk-is-arc-arrival}
-use Rattle.reckoning.proofs.Flags.{as-test}
-use Rattle.reckoning.proofs.arc.arc_arrival.Statement.{statement}
-use Rattle.reckoning.proofs.arc.arc_arrival.Tie as tie
+use Rattle.driving.specs.ArcArrival.{arcRules, arcArrival, ArcAccepted}
+use Rattle.driving.specs.ArcKept.{ArcKept}
+use Rattle.driving.proofs.ArcRules.{kept-accepted, replies}
+use Rattle.driving.proofs.ArcKept.{walk-is-arc-arrival}
+use Rattle.driving.proofs.Flags.{as-test}
+use Rattle.driving.proofs.arc.arc_arrival.Statement.{statement}
+use Rattle.driving.proofs.arc.arc_arrival.Tie as tie
 
 abbrev rules : tie.Start → List Rule
 rules s = arcRules (s .args .departure .number) (s .args .metres) (now (s .args .fences)) (now (s .args .speeds))

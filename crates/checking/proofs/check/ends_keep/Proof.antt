@@ -6,9 +6,9 @@ use native.Mathlib.Omega.{arith}
 use lib.ListN.{length, drop}
 use mir.Facts.{fits-widen}
 use Rattle.model.specs.NetworkRules.{endsKeep}
-use Rattle.reckoning.proofs.EndsScan.{tail-fails, head-fails, ends-same, ends-go-on, ends-end}
-use Rattle.reckoning.proofs.check.ends_keep.Statement.{statement}
-use Rattle.reckoning.proofs.check.ends_keep.Tie as tie
+use Rattle.checking.proofs.EndsScan.{tail-fails, head-fails, ends-same, ends-go-on, ends-end}
+use Rattle.checking.proofs.check.ends_keep.Statement.{statement}
+use Rattle.checking.proofs.check.ends_keep.Tie as tie
 
 abbrev Inv-loop : tie.InvT-loop
 Inv-loop junctions tails heads a₀ a = endsKeep junctions (drop a tails) (drop a heads) ≡ endsKeep junctions tails heads

@@ -1,7 +1,7 @@
 -- `check::junction_count_keeps` is the test `junctionsKeep`: where the first half fails, so does the whole.
 use borrow.Author.Tests.{lt-ltb, le-ltb}
-use Rattle.reckoning.proofs.check.junction_count_keeps.Statement.{statement}
-use Rattle.reckoning.proofs.check.junction_count_keeps.Tie as tie
+use Rattle.checking.proofs.check.junction_count_keeps.Statement.{statement}
+use Rattle.checking.proofs.check.junction_count_keeps.Tie as tie
 
 returns : tie.Need-returns
 returns c = simp (lt-ltb _ _ (c .if1 .taken))

@@ -6,7 +6,7 @@ use native.Mathlib.Omega.{arith}
 use Rattle.model.specs.Flow.{spansOf, arrival}
 use Rattle.model.specs.Intervals.{speedAt, walkFrom}
 use Rattle.model.proofs.IntervalWalk.{walk-from}
-use Rattle.reckoning.specs.ArcKept.{ArcKept}
+use Rattle.driving.specs.ArcKept.{ArcKept}
 
 pub walk-is-arc-arrival : {departure interval metres : ℕ} {fences speeds : List ℕ} → ArcKept departure interval metres fences speeds →
     walkFrom fences speeds interval departure (spansOf metres) ≡ arrival (speedAt fences speeds) (spansOf metres) departure

@@ -11,9 +11,9 @@ use Rattle.model.specs.NetworkRules.{networkRules, networkCheck}
 use Rattle.model.specs.Rules.{AllKept, Rule}
 use Rattle.model.proofs.Rules.{kept-next, refused-at, kept-replies, kept-count}
 use Rattle.model.proofs.NetworkRules.{kept-tables}
-use Rattle.reckoning.proofs.Flags.{as-test}
-use Rattle.reckoning.proofs.network.network_check.Statement.{statement}
-use Rattle.reckoning.proofs.network.network_check.Tie as tie
+use Rattle.driving.proofs.Flags.{as-test}
+use Rattle.checking.proofs.network.network_check.Statement.{statement}
+use Rattle.checking.proofs.network.network_check.Tie as tie
 
 abbrev N : tie.Start → Network
 N s = network (s .args .junctions) (now (s .args .fences)) (now (s .args .tails)) (now (s .args .heads)) (now (s .args .lengths)) (now (s .args .speeds))

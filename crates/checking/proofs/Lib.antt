@@ -1,0 +1,2 @@
+pub mod EndsScan
+pub mod QuestionRules

@@ -1,0 +1,2 @@
+pub mod NetworkCheck
+pub mod Question

@@ -1,0 +1,2 @@
+pub mod ArcArrival
+pub mod ArcKept

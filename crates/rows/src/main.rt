@@ -1,10 +1,10 @@
 // The reckonings of document 01 that are run and not proved, each on a line with what the operation answers.
 ghost use mathlib.Core.Path.{_≡_};
 ghost use lib.ListN.{length};
-use libc::STDOUT_FILENO;
-use model::tick::Tick;
 use driving::arc::ArcArrival;
 use driving::arc::arc_arrival;
+use libc::STDOUT_FILENO;
+use model::tick::Tick;
 use reckoning::labels::Labelled;
 use reckoning::labels::labels;
 use reckoning::route::Routed;

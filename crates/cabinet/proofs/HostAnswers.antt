@@ -16,6 +16,7 @@ use Rattle.model.specs.Network.{Network, Accepted, netOf}
 use Rattle.model.specs.NetworkRules.{networkRules, networkCheck}
 use Rattle.model.specs.Walks.{Net, Arrives, start, along}
 use Rattle.model.specs.Demands.{label}
+use Rattle.model.specs.Refusals.{refusalBase}
 use Rattle.model.specs.Rules.{Outcome, refused, replied, Rule, _if_, AllKept}
 use Rattle.model.proofs.Demands.{demand-2}
 use Rattle.model.proofs.NetworkRules.{accepts-when-kept}
@@ -32,7 +33,7 @@ use Rattle.townfile.specs.Load.{roomyTables, loadAnswer}
 use Rattle.townfile.specs.declared.progress.Progress.{Progress}
 use Rattle.townfile.proofs.Described.{described-town, faultless-described}
 use Rattle.townfile.proofs.Held.{zeros-long, town-loads}
-use Rattle.cabinet.specs.Host.{hostRefused, hostList, afterRoute, hostAnswer, HostRefusal, HostRefusesOnly, HostHasRoom, EarliestAt, Answers, HostAnswersEarliest}
+use Rattle.cabinet.specs.Host.{hostList, afterRoute, hostAnswer, HostRefusal, HostRefusesOnly, HostHasRoom, EarliestAt, Answers, HostAnswersEarliest}
 
 -- ---- The faults of a text have the numbers 20 to 27
 
@@ -113,7 +114,7 @@ module _ (N : Network) (kept : Accepted N) (source departure destination : ℕ) 
         no-sooner-waiting = λ t walk. d .no-sooner-waiting destination t walk;
       }
 
-  label-below : Routable N source departure destination hostList → arrival < hostRefused
+  label-below : Routable N source departure destination hostList → arrival < refusalBase
   label-below r = omega (arith, arrives-by-last {departure = departure} (omega (arith, r .departure-below)) (label-earliest r .attained))
 
   answered-routable : (count : ℕ) → answer ≡ replied count → Routable N source departure destination hostList
@@ -163,7 +164,7 @@ module _ (text : List ℕ) (source departure destination : ℕ) where
   unfolding hostAnswer
   described-answers described = rw (town-loads described, described-town described)
 
-  fault-answers : {number line : ℕ} → loadAnswer text roomyTables ≡ refusedAt number line → hostAnswer text source departure destination ≡ hostRefused + number
+  fault-answers : {number line : ℕ} → loadAnswer text roomyTables ≡ refusedAt number line → hostAnswer text source departure destination ≡ refusalBase + number
   unfolding hostAnswer
   fault-answers e = rw e
 
@@ -171,7 +172,7 @@ pub host-refuses-only : HostRefusesOnly
 host-refuses-only text bytes source departure destination number e = go (loads text bytes)
   where
     routed : (N : Network) → Accepted N → (outcome : Outcome ℕ) → routeAnswer N source departure destination hostList ≡ outcome →
-        afterRoute outcome (label N source departure destination) ≡ hostRefused + number → HostRefusal number
+        afterRoute outcome (label N source departure destination) ≡ refusalBase + number → HostRefusal number
     routed N kept (refused n) is e = let same : n ≡ number = omega arith in route-refusal N kept source departure destination number (is ∙ rw same)
     routed N kept (replied count) is e = absurd (omega (arith, label-below N kept source departure destination (answered-routable N kept source departure destination count is)))
 
@@ -195,7 +196,7 @@ pub host-answers-earliest : HostAnswersEarliest
 host-answers-earliest text bytes source departure destination tick = (forward, back)
   where
     routed : {T : Town} → Describes text T → (outcome : Outcome ℕ) → routeAnswer (networkOf T) source departure destination hostList ≡ outcome →
-        afterRoute outcome (label (networkOf T) source departure destination) ≡ tick → tick < hostRefused → Answers text source departure destination tick
+        afterRoute outcome (label (networkOf T) source departure destination) ≡ tick → tick < refusalBase → Answers text source departure destination tick
     routed described (refused number) is e below = absurd (omega arith)
     routed {T} described (replied count) is e below =
         let kept = described .kept .network-accepted in
@@ -209,14 +210,14 @@ host-answers-earliest text bytes source departure destination tick = (forward, b
           earliest = rw e at (label-earliest (networkOf T) kept source departure destination r);
         }
 
-    forward : (hostAnswer text source departure destination ≡ tick) × (tick < hostRefused) → Answers text source departure destination tick
+    forward : (hostAnswer text source departure destination ≡ tick) × (tick < refusalBase) → Answers text source departure destination tick
     forward answers = go (loads text bytes)
       where
         go : ((T : Town) × Describes text T) ⊎ ((number : ℕ) × (line : ℕ) × (loadAnswer text roomyTables ≡ refusedAt number line) × Fault number) → Answers text source departure destination tick
         go (inl found) = routed (found .1) _ refl (sym (described-answers text source departure destination (found .1)) ∙ answers .0) (answers .1)
         go (inr fault) = absurd (omega (arith, fault-answers text source departure destination (fault .2), answers .0, answers .1))
 
-    back : Answers text source departure destination tick → (hostAnswer text source departure destination ≡ tick) × (tick < hostRefused)
+    back : Answers text source departure destination tick → (hostAnswer text source departure destination ≡ tick) × (tick < refusalBase)
     back a =
         let N = networkOf (a .town) in
         let early : departure ≤ last = omega (arith, a .departure-below) in (

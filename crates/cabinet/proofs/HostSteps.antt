@@ -4,13 +4,14 @@ use mathlib.Core.Path.{_≡_}
 use mathlib.Core.List.{List}
 use mathlib.Core.Option.{Option, some}
 use Rattle.model.specs.Network.{Network}
+use Rattle.model.specs.Refusals.{refusalBase}
 use Rattle.model.specs.Rules.{Outcome, refused, replied}
 use Rattle.reckoning.specs.Route.{routeAnswer, routeArrival}
 use Rattle.townfile.specs.FirstFault.{Reading, refusedAt, accepted}
 use Rattle.townfile.specs.Grammar.{networkOf}
 use Rattle.townfile.specs.Tables.{townOf}
 use Rattle.townfile.specs.Load.{Counts, roomyTables, loadAnswer}
-use Rattle.cabinet.specs.Host.{hostRefused, hostList, loadNumber, routeNumber, hostAnswer}
+use Rattle.cabinet.specs.Host.{hostList, loadNumber, routeNumber, hostAnswer}
 
 -- ---- The answer
 
@@ -18,12 +19,12 @@ module _ (text : List ℕ) (source departure destination : ℕ) where
   abbrev N : Network
   N = networkOf (townOf text)
 
-  pub load-refuses : {answer : Reading Counts} {number line : ℕ} → answer ≡ loadAnswer text roomyTables → answer ≡ refusedAt number line → hostRefused + loadNumber answer ≡ hostAnswer text source departure destination
+  pub load-refuses : {answer : Reading Counts} {number line : ℕ} → answer ≡ loadAnswer text roomyTables → answer ≡ refusedAt number line → refusalBase + loadNumber answer ≡ hostAnswer text source departure destination
   unfolding hostAnswer
   load-refuses e r = rw (← e, r)
 
   module _ {reply : Counts} (loaded : accepted reply ≡ loadAnswer text roomyTables) where
-    pub route-refuses : {outcome : Outcome ℕ} {number : ℕ} → outcome ≡ routeAnswer N source departure destination hostList → outcome ≡ refused number → hostRefused + routeNumber outcome ≡ hostAnswer text source departure destination
+    pub route-refuses : {outcome : Outcome ℕ} {number : ℕ} → outcome ≡ routeAnswer N source departure destination hostList → outcome ≡ refused number → refusalBase + routeNumber outcome ≡ hostAnswer text source departure destination
     unfolding hostAnswer
     route-refuses e r = rw (← loaded, ← e, r)
 

@@ -11,16 +11,13 @@ use Rattle.model.specs.Ticks.{day}
 use Rattle.model.specs.Network.{netOf}
 use Rattle.model.specs.Walks.{Net, Arrives, ArrivesWaiting}
 use Rattle.model.specs.Demands.{label}
+use Rattle.model.specs.Refusals.{refusalBase}
 use Rattle.model.specs.Rules.{Outcome, refused, replied}
 use Rattle.reckoning.specs.Route.{routeAnswer}
 use Rattle.townfile.specs.FirstFault.{Reading, refusedAt, accepted}
 use Rattle.townfile.specs.Grammar.{Bytes, Town, Describes, networkOf}
 use Rattle.townfile.specs.Tables.{townOf}
 use Rattle.townfile.specs.Load.{Counts, roomyTables, loadAnswer}
-
--- A refusal's code is this and its number.
-abbrev pub hostRefused : ℕ
-hostRefused = 4294900000
 
 -- The list for the route, before anything is written.
 abbrev pub hostList : List ℕ
@@ -37,11 +34,11 @@ routeNumber (replied count) = 0
 
 -- The steps, each a refusal's code or what follows.
 abbrev pub afterLoad : Reading Counts → ℕ → ℕ
-afterLoad (refusedAt number line) next = hostRefused + number
+afterLoad (refusedAt number line) next = refusalBase + number
 afterLoad (accepted counts) next = next
 
 abbrev pub afterRoute : Outcome ℕ → ℕ → ℕ
-afterRoute (refused number) next = hostRefused + number
+afterRoute (refused number) next = refusalBase + number
 afterRoute (replied count) next = next
 
 unfoldable pub hostAnswer : List ℕ → ℕ → ℕ → ℕ → ℕ
@@ -62,12 +59,12 @@ pub data HostRefusal : ℕ → Type 0 where
 -- Of a text of bytes the host question ends in no other refusal.
 abbrev pub HostRefusesOnly : Type 0
 HostRefusesOnly = (text : List ℕ) → Bytes text → (source departure destination number : ℕ) →
-    hostAnswer text source departure destination ≡ hostRefused + number → HostRefusal number
+    hostAnswer text source departure destination ≡ refusalBase + number → HostRefusal number
 
 -- Its tables and its list are never too short, and no town's network is refused: it never answers the code of 28, of 14, or of 1 to 8.
 abbrev pub HostHasRoom : Type 0
 HostHasRoom = (text : List ℕ) → Bytes text → (source departure destination number : ℕ) →
-    hostAnswer text source departure destination ≡ hostRefused + number → (number ≡ 28 → ⊥) × (number ≡ 14 → ⊥) × (1 ≤ number → number ≤ 8 → ⊥)
+    hostAnswer text source departure destination ≡ refusalBase + number → (number ≡ 28 → ⊥) × (number ≡ 14 → ⊥) × (1 ≤ number → number ≤ 8 → ⊥)
 
 -- A tick is the earliest arrival at a junction over all walks from the source, also over those that wait.
 pub record EarliestAt (N : Net) (source departure j tick : ℕ) : Type 0 where
@@ -88,4 +85,4 @@ pub record Answers (text : List ℕ) (source departure destination tick : ℕ) :
 -- An answer below the codes is the earliest arrival in the town that the text describes, and there is no other way to get one.
 abbrev pub HostAnswersEarliest : Type 0
 HostAnswersEarliest = (text : List ℕ) → Bytes text → (source departure destination tick : ℕ) →
-    ((hostAnswer text source departure destination ≡ tick) × (tick < hostRefused)) ↔ Answers text source departure destination tick
+    ((hostAnswer text source departure destination ≡ tick) × (tick < refusalBase)) ↔ Answers text source departure destination tick

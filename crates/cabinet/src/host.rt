@@ -1,11 +1,11 @@
 // Host question: the destination's label in the town that a text describes, or a refusal's code.
 ghost use mathlib.Core.Path.{_≡_};
 ghost use Prim.Native.Nat.{_+_};
-ghost use Rattle.model.specs.Refusals.{numberOf};
+ghost use Rattle.model.specs.Refusals.{refusalBase};
 ghost use Rattle.townfile.specs.Load.{counts, tables, LongEnough, networkAt};
 ghost use Rattle.loading.specs.Loads.{readingOf};
 ghost use Rattle.reckoning.specs.Route.{outcomeOf, arrivalOf, routeAnswer, routeArrival};
-ghost use Rattle.cabinet.specs.Host.{hostRefused, loadNumber, routeNumber, hostAnswer};
+ghost use Rattle.cabinet.specs.Host.{loadNumber, routeNumber, hostAnswer};
 use loading::load::Loaded;
 use loading::load::load;
 use model::limit::MAX_ARCS;
@@ -16,39 +16,30 @@ use model::tick::Tick;
 use reckoning::route::Routed;
 use reckoning::route::route;
 
-// A refusal's code is this and its number. It is above every tick.
-const HOST_REFUSED: u32 = 4_294_900_000;
-
 const MAX_SPEEDS: usize = MAX_ARCS * MAX_INTERVALS;
 
-fn code(refusal: Refusal) -> u32
-    ensures { λ r. ⌜ r ≡ hostRefused + numberOf refusal ⌝ }
-{
-    HOST_REFUSED + refusal.number()
-}
-
 fn load_refusal(loaded: Loaded) -> u32
-    ensures { λ r. ⌜ r ≡ hostRefused + loadNumber (readingOf loaded) ⌝ }
+    ensures { λ r. ⌜ r ≡ refusalBase + loadNumber (readingOf loaded) ⌝ }
 {
     match loaded {
-        Loaded::Refused { refusal, line: _ } => code(refusal),
+        Loaded::Refused { refusal, line: _ } => refusal.code(),
         Loaded::Counts {
             junctions: _,
             intervals: _,
             arcs: _,
-        } => HOST_REFUSED,
+        } => Refusal::BASE,
     }
 }
 
 fn route_refusal(routed: Routed) -> u32
-    ensures { λ r. ⌜ r ≡ hostRefused + routeNumber (outcomeOf routed) ⌝ }
+    ensures { λ r. ⌜ r ≡ refusalBase + routeNumber (outcomeOf routed) ⌝ }
 {
     match routed {
-        Routed::Refused(refusal) => code(refusal),
+        Routed::Refused(refusal) => refusal.code(),
         Routed::Arcs {
             count: _,
             arrival: _,
-        } => HOST_REFUSED,
+        } => Refusal::BASE,
     }
 }
 

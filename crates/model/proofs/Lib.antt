@@ -12,6 +12,7 @@ pub mod OnlyTables
 pub mod Passed
 pub mod Predecessors
 pub mod Products
+pub mod Refusals
 pub mod Routes
 pub mod Rules
 pub mod Tests

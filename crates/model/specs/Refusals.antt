@@ -1,4 +1,4 @@
--- The number that document 01 gives each refusal.
+-- The number that document 01 gives each refusal, and what is added to it where one number answers either a refusal or a tick.
 use Prim.Native.Nat.{ℕ}
 use Rattle.model.specs.declared.refusal.Refusal.{Refusal}
 use Rattle.model.specs.declared.refusal.Refusal.the-variants.{JunctionCount, IntervalCount, ArcCount, TableLength, Fence, ArcEnds, Length, Speed, Source, Departure, BufferLength, Destination, Unreached, ArcListLength, DepartureAfterLast, TextLength, NoLineFeed, LineLength, UnknownMark, MarkOutOfTurn, FieldForm, FieldValue, LineMissing, TableTooShort}
@@ -28,3 +28,7 @@ numberOf FieldForm = 25
 numberOf FieldValue = 26
 numberOf LineMissing = 27
 numberOf TableTooShort = 28
+
+-- "As 4,294,900,000 + its number": a refusal's code is this and its number.
+abbrev pub refusalBase : ℕ
+refusalBase = 4294900000

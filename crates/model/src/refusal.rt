@@ -1,6 +1,7 @@
-// Every refusal of the operations, by name, and its number.
+// Every refusal of the operations, by name, its number, and its code for a caller from C.
 ghost use mathlib.Core.Path.{_≡_};
-ghost use Rattle.model.specs.Refusals.{numberOf};
+ghost use Prim.Native.Nat.{_+_};
+ghost use Rattle.model.specs.Refusals.{numberOf, refusalBase};
 
 pub enum Refusal {
     // The network's rules.
@@ -33,6 +34,9 @@ pub enum Refusal {
 }
 
 impl Refusal {
+    // A refusal's code is this and its number. It is above every tick.
+    pub const BASE: u32 = 4_294_900_000;
+
     // The number by which the operations' users know the refusal.
     pub fn number(self) -> u32
         ensures { λ r. ⌜ r ≡ numberOf self ⌝ }
@@ -63,5 +67,12 @@ impl Refusal {
             Refusal::LineMissing => 27,
             Refusal::TableTooShort => 28,
         }
+    }
+
+    // Where a caller from C is answered a tick or a count, a refusal stands above them all.
+    pub fn code(self) -> u32
+        ensures { λ r. ⌜ r ≡ refusalBase + numberOf self ⌝ }
+    {
+        Refusal::BASE + self.number()
     }
 }

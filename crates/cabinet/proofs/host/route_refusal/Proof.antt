@@ -2,16 +2,17 @@
 use borrow.Author.Needs.{needs}
 use Prim.Native.Nat.{_+_}
 use mathlib.Core.Path.{sym, ap, _∙_}
+use Rattle.model.specs.Refusals.{refusalBase}
 use Rattle.reckoning.specs.Route.{outcomeOf}
-use Rattle.cabinet.specs.Host.{hostRefused, routeNumber}
+use Rattle.cabinet.specs.Host.{routeNumber}
 use Rattle.cabinet.proofs.host.route_refusal.Statement.{statement}
 use Rattle.cabinet.proofs.host.route_refusal.Tie as tie
 
 returns : tie.Need-returns
-returns c = c .code .ensures ∙ ap (λ r. hostRefused + routeNumber (outcomeOf r)) (sym (c .before .before .routed .given .1))
+returns c = c .code .ensures ∙ ap (λ r. refusalBase + routeNumber (outcomeOf r)) (sym (c .before .before .routed .given .1))
 
 returns-2 : tie.Need-returns-2
-returns-2 c = ap (λ r. hostRefused + routeNumber (outcomeOf r)) (sym (c .enum-told .given .1))
+returns-2 c = ap (λ r. refusalBase + routeNumber (outcomeOf r)) (sym (c .enum-told .given .1))
 
 pub route-refusal-spec : {M : Type 1} → statement M
 route-refusal-spec = tie.close (tie.spec (λ c. search needs) (λ c κs. search needs) (λ c. search needs) returns returns-2)

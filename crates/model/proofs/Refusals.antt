@@ -1,0 +1,32 @@
+-- No refusal's number is above 28, so its code fits 32 bits.
+use Prim.Native.Nat.{_≤_}
+use native.Mathlib.Omega.{arith}
+use Rattle.model.specs.Refusals.{numberOf}
+use Rattle.model.specs.declared.refusal.Refusal.{Refusal}
+use Rattle.model.specs.declared.refusal.Refusal.the-variants.{JunctionCount, IntervalCount, ArcCount, TableLength, Fence, ArcEnds, Length, Speed, Source, Departure, BufferLength, Destination, Unreached, ArcListLength, DepartureAfterLast, TextLength, NoLineFeed, LineLength, UnknownMark, MarkOutOfTurn, FieldForm, FieldValue, LineMissing, TableTooShort}
+
+pub number-fits : (refusal : Refusal) → numberOf refusal ≤ 28
+number-fits JunctionCount = omega arith
+number-fits IntervalCount = omega arith
+number-fits ArcCount = omega arith
+number-fits TableLength = omega arith
+number-fits Fence = omega arith
+number-fits ArcEnds = omega arith
+number-fits Length = omega arith
+number-fits Speed = omega arith
+number-fits Source = omega arith
+number-fits Departure = omega arith
+number-fits BufferLength = omega arith
+number-fits Destination = omega arith
+number-fits Unreached = omega arith
+number-fits ArcListLength = omega arith
+number-fits DepartureAfterLast = omega arith
+number-fits TextLength = omega arith
+number-fits NoLineFeed = omega arith
+number-fits LineLength = omega arith
+number-fits UnknownMark = omega arith
+number-fits MarkOutOfTurn = omega arith
+number-fits FieldForm = omega arith
+number-fits FieldValue = omega arith
+number-fits LineMissing = omega arith
+number-fits TableTooShort = omega arith

@@ -1,5 +1,5 @@
--- The name of a junction: line by line, what the lines from here on name is what the whole text names. A line of the right form has
--- its number behind the mark's space and its name behind the number's, and every line of a text without fault has that form.
+-- The place of a name: line by line, the place that the lines from here on give is the whole text's. A line of the right form has its
+-- number behind the mark's space and its name behind the number's, and every line of a text without fault has that form.
 use Prim.Native.Nat.{ℕ, suc, _+_, _-_, _≤_, _<_}
 use mathlib.Core.Path.{_≡_, refl, sym, ap, _∙_}
 use mathlib.Core.Bool.{Bool, true, false, cond, _&&_}
@@ -7,25 +7,24 @@ use mathlib.Core.Logic.{inl, inr}
 use mathlib.Core.List.{List, [], _∷_}
 use native.Mathlib.Omega.{arith}
 use lib.Dec.{ltb, eqb}
-use lib.ListN.{length, getD, take, drop, drop-of-length-le, length-drop}
+use lib.ListN.{length, getD, drop, drop-of-length-le, length-drop}
 use borrow.Author.Tests.{not-false, eqb-true, eq-eqb, ne-eqb}
 use Rattle.model.specs.Rules.{Outcome, refused, replied}
 use Rattle.model.proofs.Rules.{true-both, replies-kept}
-use Rattle.model.proofs.Tests.{eqb-cases, ltb-cases}
+use Rattle.model.proofs.Tests.{ltb-cases}
 use Rattle.townfile.specs.Bytes.{lineFeed, space, upTo, pieces}
 use Rattle.townfile.specs.Numbers.{decimal, numberKeeps}
 use Rattle.townfile.specs.Lines.{markJN, markOf, markAlone, numberField, nameField, nameKeeps, formKeeps, lineRules, lineRead, lineAnswer}
 use Rattle.townfile.specs.Grammar.{Each}
 use Rattle.townfile.specs.FirstFault.{refusedAt, accepted, start, onward, linesFrom, firstFault}
-use Rattle.townfile.specs.Tables.{marked, namesIn, townOf}
-use Rattle.townfile.specs.Name.{nameAmong, nameOf}
+use Rattle.townfile.specs.Name.{part, namesIt, placeAmong, namePlace}
 use Rattle.townfile.specs.declared.progress.Progress.{Progress}
 use Rattle.townfile.proofs.NameForm.{keeps-name}
 use Rattle.loading.specs.Fields.{lineFrom, wordFrom, fieldAt}
-use Rattle.loading.specs.Naming.{LineNames, namesIt, nameStart, Names}
+use Rattle.loading.specs.Naming.{LineNames, nameStart}
 use Rattle.loading.specs.declared.field.Field.the-variants as field
 use Rattle.loading.specs.declared.name.NameStart.the-variants.{At, Other}
-use Rattle.loading.proofs.LineFrom.{line-later, line-inside, upTo-behind}
+use Rattle.loading.proofs.LineFrom.{line-later, upTo-behind}
 use Rattle.loading.proofs.NumbersLeft.{no-word}
 use Rattle.loading.proofs.RestLines.{lines-behind, next-lines, last-line}
 
@@ -137,81 +136,66 @@ module _ (text : List ℕ) (at junction : ℕ) where
 
 -- ---- The lines from a place on
 
--- What the lines from here on name is what the text names.
+-- The place that the lines from here on give is the one that the text gives.
 pub record NamesLeft (text : List ℕ) (junction at : ℕ) : Type 0 where
   pub lines-named : Each LineNames (pieces lineFeed (drop at text))
-  pub same-name : nameAmong junction (namesIn (pieces lineFeed (drop at text))) ≡ nameAmong junction (townOf text .names)
+  pub same-place : placeAmong junction at (pieces lineFeed (drop at text)) ≡ placeAmong junction 0 (pieces lineFeed text)
 
-among-lines : (junction : ℕ) (line : List ℕ) (lines : List (List ℕ)) →
-    nameAmong junction (namesIn (line ∷ lines)) ≡ cond (namesIt junction line) (nameField line) (nameAmong junction (namesIn lines))
-unfolding marked nameAmong
-among-lines junction line lines = elim (eqb-cases (markOf line) markJN) [
-  | inl here ↦ rw (here .0)
-  | inr other ↦ rw (other .0)
-]
-
--- The bytes before the first separator are the first bytes.
-upTo-take : (separator : ℕ) (bytes : List ℕ) → take (length (upTo separator bytes)) bytes ≡ upTo separator bytes
-unfolding upTo
-upTo-take separator [] = refl
-upTo-take separator (byte ∷ bytes) = elim (eqb-cases byte separator) [
-  | inl here ↦ rw (here .0)
-  | inr other ↦ rw (other .0) (ap (λ rest. byte ∷ rest) (upTo-take separator bytes))
-]
-
-line-taken : (text : List ℕ) (at : ℕ) → take (length (lineFrom text at)) (drop at text) ≡ lineFrom text at
-unfolding lineFrom
-line-taken text at = upTo-take lineFeed (drop at text)
+same-part : {a b m n : ℕ} → a ≡ b → m ≡ n → part a m ≡ part b n
+same-part e f = cc
 
 pub all-left : (text : List ℕ) (junction : ℕ) → Each LineNames (pieces lineFeed text) → NamesLeft text junction 0
-unfolding townOf
-all-left text junction named = record { lines-named = named; same-name = refl }
+all-left text junction named = record { lines-named = named; same-place = refl }
 
 module _ {text : List ℕ} {junction at : ℕ} (left : NamesLeft text junction at) where
   pub line-named : LineNames (lineFrom text at)
   unfolding Each
   line-named = (rw (lines-behind text at) at (left .lines-named)) .0
 
-  pub none-left : length text ≤ at → Names text junction 0 0
-  unfolding pieces marked nameAmong markOf
-  none-left h = record { in-order = omega arith; inside = omega arith; part = rw (drop-of-length-le text h) at (left .same-name) }
+  pub none-left : length text ≤ at → part 0 0 ≡ placeAmong junction 0 (pieces lineFeed text)
+  unfolding pieces placeAmong markOf
+  none-left h = rw (drop-of-length-le text h) at (left .same-place)
 
   module _ {end : ℕ} (ends : end ≡ at + length (lineFrom text at)) where
     pub line-passed : nameStart text at junction ≡ Other → NamesLeft text junction (end + 1)
-    unfolding Each pieces marked nameAmong markOf
+    unfolding Each pieces placeAmong markOf
     line-passed e =
-        let skipped : (lines : List (List ℕ)) → nameAmong junction (namesIn (lineFrom text at ∷ lines)) ≡ nameAmong junction (namesIn lines) =
-        λ lines. among-lines junction (lineFrom text at) lines ∙ rw (start-other text at junction e) in
+        let other : namesIt junction (lineFrom text at) ≡ false = start-other text at junction e in
         elim (ltb-cases end (length text)) [
           | inl inside ↦
               (let next : pieces lineFeed (drop at text) ≡ lineFrom text at ∷ pieces lineFeed (drop (end + 1) text) = rw ends (next-lines text at (rw ends at (inside .1))) in
-              record { lines-named = (rw next at (left .lines-named)) .1; same-name = sym (skipped (pieces lineFeed (drop (end + 1) text))) ∙ rw next at (left .same-name) })
+              record { lines-named = (rw next at (left .lines-named)) .1; same-place = rw (next, other, ← ends) at (left .same-place) })
           | inr past ↦
               (let none : drop (end + 1) text ≡ [] = drop-of-length-le text {i = end + 1} (omega (arith, past .1)) in
-              record { lines-named = rw none (empty-names, tt); same-name = rw none (sym (skipped []) ∙ rw (last-line text at (rw ends at (past .1))) at (left .same-name)) })
+              record { lines-named = rw none (empty-names, tt); same-place = rw none (rw (last-line text at (rw ends at (past .1)), other) at (left .same-place)) })
         ]
 
-    pub name-found : {from : ℕ} → nameStart text at junction ≡ At from → Names text junction from end
-    name-found {from} e =
-        let line : List ℕ = lineFrom text at in
-        let found = start-at text at junction e in
-        let begins = name-begins text at line-named (eqb-true (markOf line) markJN (true-both (eqb (markOf line) markJN) (eqb (decimal (numberField line)) junction) (found .0) .0)) in
-        let behind : lineFrom text from ≡ nameField line = ap (lineFrom text) (sym (found .1)) ∙ line-later text at (length (numberField line) + 4) (omega (arith, begins)) in
-        let long : end - from ≡ length (lineFrom text from) = omega (arith, ap length behind, length-drop (length (numberField line) + 4) line, found .1, begins) in
-        let first = rw (found .0) at (among-lines junction line (drop 1 (pieces lineFeed (drop (at + length line) text)))) in
-        record {
-          in-order = omega (arith, found .1, begins);
-          inside = omega (arith, line-inside text at, begins);
-          part = rw long (line-taken text from) ∙ behind ∙ sym first ∙ rw (lines-behind text at) at (left .same-name);
-        }
+    module _ {from : ℕ} (e : nameStart text at junction ≡ At from) where
+      begins : length (numberField (lineFrom text at)) + 4 < length (lineFrom text at)
+      begins =
+          let line : List ℕ = lineFrom text at in
+          name-begins text at line-named (eqb-true (markOf line) markJN (true-both (eqb (markOf line) markJN) (eqb (decimal (numberField line)) junction) (start-at text at junction e .0) .0))
+
+      pub starts-inside : from ≤ end
+      starts-inside = omega (arith, start-at text at junction e .1, begins)
+
+      pub name-found : part from (end - from) ≡ placeAmong junction 0 (pieces lineFeed text)
+      unfolding placeAmong
+      name-found =
+          let line : List ℕ = lineFrom text at in
+          let found = start-at text at junction e in
+          let long = length-drop (length (numberField line) + 4) line in
+          let starts : from ≡ at + (length line - length (nameField line)) = omega (arith, found .1, begins, long) in
+          let size : end - from ≡ length (nameField line) = omega (arith, found .1, begins, long) in
+          same-part starts size ∙ rw (lines-behind text at, found .0) at (left .same-place)
 
 -- ---- What the scan decides
 
 module _ (text : List ℕ) (junction : ℕ) where
-  pub refused-nameless : {number line : ℕ} → refusedAt number line ≡ firstFault text → [] ≡ nameOf text junction
-  unfolding nameOf
-  refused-nameless e = rw (sym e)
+  pub refused-nowhere : {number line : ℕ} → refusedAt number line ≡ firstFault text → part 0 0 ≡ namePlace text junction
+  unfolding namePlace
+  refused-nowhere e = rw (sym e)
 
-  pub accepted-named : {p : Progress} → accepted p ≡ firstFault text → nameAmong junction (townOf text .names) ≡ nameOf text junction
-  unfolding nameOf
-  accepted-named e = rw (sym e)
+  pub accepted-somewhere : {p : Progress} → accepted p ≡ firstFault text → placeAmong junction 0 (pieces lineFeed text) ≡ namePlace text junction
+  unfolding namePlace
+  accepted-somewhere e = rw (sym e)

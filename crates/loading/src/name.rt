@@ -1,10 +1,10 @@
-// Name: a junction's name, as a part of the text.
+// Name: a junction's name, as a part of the text, and where that part stands.
 ghost use mathlib.Core.Path.{_≡_};
 ghost use Rattle.townfile.specs.Bytes.{lineFeed, pieces};
 ghost use Rattle.townfile.specs.Grammar.{Each};
-ghost use Rattle.townfile.specs.Name.{nameOf};
+ghost use Rattle.townfile.specs.Name.{nameOf, placeAmong, namePlace};
 ghost use Rattle.loading.specs.Fields.{lineFrom};
-ghost use Rattle.loading.specs.Naming.{LineNames, Names, nameStart};
+ghost use Rattle.loading.specs.Naming.{LineNames, nameStart};
 use crate::field::Field;
 use crate::field::line_end;
 use crate::field::mark_at;
@@ -12,17 +12,12 @@ use crate::field::read_field;
 use crate::scan::Scanned;
 use crate::scan::scan;
 use townfile::mark::JUNCTION;
+use townfile::part::Part;
 
 // Where the name begins, if the line names the junction asked for.
 enum NameStart {
     At(usize),
     Other,
-}
-
-// From where to where a name stands in a text; the same place twice where there is none.
-struct Part {
-    start: usize,
-    end: usize,
 }
 
 fn name_start(text: &[u8], at: usize, junction: u32) -> NameStart
@@ -43,30 +38,45 @@ fn name_start(text: &[u8], at: usize, junction: u32) -> NameStart
 
 fn find_name(text: &[u8], junction: u32) -> Part
     requires { ⌜ Each LineNames (pieces lineFeed (now text)) ⌝ }
-    ensures { λ r. ⌜ Names (now (text .entry)) junction (r .start) (r .end) ⌝ }
+    ensures { λ r. ⌜ r ≡ placeAmong junction 0 (pieces lineFeed (now (text .entry))) ⌝ }
 {
     let mut at = 0;
     while at < text.len() {
         let end = line_end(text, at);
         if let NameStart::At(start) = name_start(text, at, junction) {
-            return Part { start, end };
+            return Part {
+                start,
+                length: end - start,
+            };
         }
         at = end + 1;
     }
-    Part { start: 0, end: 0 }
+    Part {
+        start: 0,
+        length: 0,
+    }
 }
 
-pub fn name(text: &[u8], junction: u32) -> &[u8]
-    ensures { λ r. ⌜ now r ≡ nameOf (now (text .entry)) junction ⌝ }
+pub fn name_place(text: &[u8], junction: u32) -> Part
+    ensures { λ r. ⌜ r ≡ namePlace (now (text .entry)) junction ⌝ }
 {
     if let Scanned::Refused {
         refusal: _,
         line: _,
     } = scan(text) {
-        return &text[0..0];
+        return Part {
+            start: 0,
+            length: 0,
+        };
     }
-    let part = find_name(text, junction);
-    let start = part.start;
-    let end = part.end;
+    find_name(text, junction)
+}
+
+pub fn name(text: &[u8], junction: u32) -> &[u8]
+    ensures { λ r. ⌜ now r ≡ nameOf (now (text .entry)) junction ⌝ }
+{
+    let place = name_place(text, junction);
+    let start = place.start;
+    let end = start + place.length;
     &text[start..end]
 }

@@ -35,7 +35,7 @@ joined-pieces (line ∷ lines) unbroken = rw (pieces-of-line line (joined lines)
 -- ---- From pieces to lines
 
 -- The text of some pieces.
-glued : List (List ℕ) → List ℕ
+unfoldable pub glued : List (List ℕ) → List ℕ
 glued [] = []
 glued (piece ∷ []) = piece
 glued (piece ∷ next ∷ pieces) = piece ++ (lineFeed ∷ glued (next ∷ pieces))
@@ -53,7 +53,7 @@ glued-next byte bytes first more e = elim (eqb-cases byte lineFeed) [
   | inr other ↦ rw (other .0, glued-on-first byte first more, e)
 ]
 
-glued-pieces : (text : List ℕ) → glued (pieces lineFeed text) ≡ text
+pub glued-pieces : (text : List ℕ) → glued (pieces lineFeed text) ≡ text
 unfolding pieces onFirst glued
 glued-pieces [] = refl
 glued-pieces (byte ∷ bytes) = rw (pieces-next lineFeed bytes) (glued-next byte bytes _ _ (rw (pieces-next lineFeed bytes) at (glued-pieces bytes)))

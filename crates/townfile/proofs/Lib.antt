@@ -11,6 +11,7 @@ pub mod LineForm
 pub mod Loaded
 pub mod Marks
 pub mod NameForm
+pub mod NamePlace
 pub mod Names
 pub mod NumberForm
 pub mod Order

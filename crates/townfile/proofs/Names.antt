@@ -8,7 +8,7 @@ use borrow.Author.Tests.{eq-eqb, ne-eqb}
 use Rattle.townfile.specs.Grammar.{Named, Town, Each, Line, TN, FN, JN, AR, CM, Reads, ReadsAll, no-lines, reads-line, junction-line, Describes}
 use Rattle.townfile.specs.FirstFault.{Reading, refusedAt, accepted, firstFault}
 use Rattle.townfile.specs.Tables.{townOf}
-use Rattle.townfile.specs.Name.{nameAmong, nameIfRead, nameOf, NameGivesNames, NameOfNoTown}
+use Rattle.townfile.specs.Name.{ifRead, nameAmong, nameOf, NameGivesNames, NameOfNoTown}
 use Rattle.townfile.specs.declared.progress.Progress.{Progress}
 use Rattle.townfile.proofs.Kept.{NamesFrom, kept-parts}
 use Rattle.townfile.proofs.Gathered.{townSaid, town-said}
@@ -73,6 +73,6 @@ pub name-of-no-town : NameOfNoTown
 unfolding nameOf
 name-of-no-town text bytes none junction = go (firstFault text) refl
   where
-    go : (reading : Reading Progress) → firstFault text ≡ reading → nameIfRead reading (nameAmong junction (townOf text .names)) ≡ []
+    go : (reading : Reading Progress) → firstFault text ≡ reading → ifRead reading (nameAmong junction (townOf text .names)) [] ≡ []
     go (refusedAt number line) r = refl
     go (accepted p) r = let found = faultless-described bytes r in absurd (none (found .0) (found .1))

@@ -2,4 +2,5 @@
 // code that reads a file is the crate `loading`.
 pub mod limit;
 pub mod mark;
+pub mod part;
 pub mod progress;

@@ -1,12 +1,14 @@
--- `name::find_name`: at each turn what the lines from here on name is what the text names.
+-- `name::find_name`: at each turn the place that the lines from here on give is the one that the text gives.
 use borrow.Author.Needs.{needs}
 use Prim.Native.Nat.{_-_}
-use mathlib.Core.Path.{sym, _∙_}
+use mathlib.Core.Path.{_≡_, sym, _∙_}
 use native.Mathlib.Omega.{arith}
 use lib.ListN.{length}
 use denote.Ref.{now}
+use Rattle.loading.specs.Naming.{nameStart}
+use Rattle.loading.specs.declared.name.NameStart.the-variants.{At}
 use Rattle.loading.proofs.LineFrom.{line-inside}
-use Rattle.loading.proofs.Naming.{NamesLeft, all-left, none-left, line-named, line-passed, name-found}
+use Rattle.loading.proofs.Naming.{NamesLeft, all-left, none-left, line-named, line-passed, starts-inside, name-found}
 use Rattle.loading.proofs.name.find_name.Statement.{statement}
 use Rattle.loading.proofs.name.find_name.Tie as tie
 
@@ -22,10 +24,22 @@ loop-holds c = all-left _ _ (c .before .pre)
 name-start-requires : tie.Need-name-start-requires Inv-loop μ-loop
 name-start-requires c κs = line-named (c .before .before .loop .inv)
 
+-- the line names the junction
+begins : (c : tie.After-known-told Inv-loop μ-loop) →
+    let turn = c .before .before .before .before .before .before in
+    nameStart (now (turn .before .before .args .text)) (turn .loop .at) (turn .before .before .args .junction)
+    ≡ At (c .before .start .given .0 .0)
+begins c = sym (c .before .before .before .name-start .ensures) ∙ c .before .start .given .1
+
+sub-t9 : tie.Need-sub-t9 Inv-loop μ-loop
+sub-t9 c =
+    let turn = c .before .before .before in
+    omega (arith, starts-inside (turn .before .before .before .loop .inv) (turn .before .line-end .ensures) (begins c))
+
 returns : tie.Need-returns Inv-loop μ-loop
 returns c =
     let turn = c .before .before .before in
-    name-found (turn .before .before .before .loop .inv) (turn .before .line-end .ensures) (sym (turn .name-start .ensures) ∙ c .before .start .given .1)
+    name-found (turn .before .before .before .loop .inv) (turn .before .line-end .ensures) (begins c)
 
 add-at : tie.Need-add-at Inv-loop μ-loop
 add-at c =
@@ -53,6 +67,7 @@ find-name-spec =
     (λ c κs. search needs)
     name-start-requires
     (λ c. search needs)
+    sub-t9
     returns
     (λ c. search needs)
     add-at

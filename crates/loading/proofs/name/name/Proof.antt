@@ -1,39 +1,28 @@
--- `name::name`: a text with a fault has no names, and of any other each line that names a junction has the form.
+-- `name::name`: the part at the name's place is the name, and lies inside the text.
 use borrow.Author.Needs.{needs}
-use mathlib.Core.Path.{_≡_, sym, ap, _∙_}
+use Prim.Native.Nat.{_+_, _-_}
+use mathlib.Core.Path.{_≡_}
+use native.Mathlib.Omega.{arith}
 use denote.Ref.{now}
-use Rattle.townfile.specs.FirstFault.{accepted, firstFault}
-use Rattle.loading.specs.Scans.{readingOf}
-use Rattle.loading.proofs.Naming.{accepted-names, refused-nameless, accepted-named}
+use Rattle.townfile.specs.Name.{nameOf, StandsAt}
+use Rattle.townfile.proofs.NamePlace.{name-stands-at-place}
 use Rattle.loading.proofs.name.name.Statement.{statement}
 use Rattle.loading.proofs.name.name.Tie as tie
 
+stands : (c : tie.After-name-place) → let text = now (c .before .before .args .text) in StandsAt text (c .name-place .result) (nameOf text (c .before .before .args .junction))
+stands c = rw (c .name-place .ensures) (name-stands-at-place _ _)
+
+add-end : tie.Need-add-end
+add-end c = omega (arith, stands (c .before) .inside)
+
+part-result-end : tie.Need-part-result-end
+part-result-end c = omega (arith, stands (c .before) .inside)
+
 returns : tie.Need-returns
-returns c = refused-nameless _ _ (sym (ap readingOf (c .before .enum-told .given .1)) ∙ c .before .before .before .scan .ensures)
-
--- the text has no fault
-faultless : (c : tie.After-enum-told2) → accepted (c .enum-told2 .given .0 .0) ≡ firstFault (now (c .before .before .before .before .args .text))
-faultless c = sym (ap readingOf (c .enum-told2 .given .1)) ∙ c .before .before .scan .ensures
-
-find-name-requires : tie.Need-find-name-requires
-find-name-requires c κs = accepted-names _ _ (sym (faultless c))
-
-returns-2 : tie.Need-returns-2
-returns-2 c = c .before .find-name .ensures .part ∙ accepted-named _ _ (faultless (c .before .before))
+returns c =
+    let place = c .before .before .name-place .result in
+    let size : place .start + place .length - place .start ≡ place .length = omega arith in
+    rw size (stands (c .before .before) .bytes)
 
 pub name-spec : {M : Type 1} → statement M
-name-spec =
-    tie.close
-    (tie.spec
-    (λ c κs. search needs)
-    (λ c. search needs)
-    (λ c. search needs)
-    (λ c. search needs)
-    (λ c. search needs)
-    returns
-    (λ c. search needs)
-    find-name-requires
-    (λ c. search needs)
-    (λ c. search needs)
-    (λ c. search needs)
-    returns-2)
+name-spec = tie.close (tie.spec (λ c κs. search needs) add-end (λ c. search needs) (λ c. search needs) part-result-end returns)

@@ -1,0 +1,93 @@
+-- `text::exports_load`: the code of what Load answers, which fits since a loaded town is small and so is a refusal's number; the tables
+-- are Load's own.
+use borrow.Author.Needs.{needs}
+use Prim.Native.Nat.{ℕ}
+use mathlib.Core.Path.{_≡_, sym, ap, _∙_}
+use mathlib.Core.List.{List}
+use native.Mathlib.Omega.{arith}
+use denote.Ref.{now}
+use Rattle.model.proofs.Refusals.{number-fits}
+use Rattle.loading.specs.Loads.{readingOf}
+use Rattle.townfile.specs.FirstFault.{accepted}
+use Rattle.townfile.specs.Grammar.{Bytes}
+use Rattle.townfile.specs.Load.{Counts, counts, Tables, tables, loadAnswer}
+use Rattle.exports.specs.Codes.{loadCode}
+use Rattle.exports.proofs.Fits.{CountsFit, counts-fit}
+use Rattle.exports.proofs.text.exports_load.Statement.{statement}
+use Rattle.exports.proofs.text.exports_load.Tie as tie
+
+abbrev called : tie.After-slice-known10 → tie.After-load
+called c = c .before .before .before .before .before .before .before .before .before .before
+
+abbrev entry : tie.After-load → tie.After-shared-slice-known
+entry c = c .before .before .before .before .before .before .before .before .before .before .before
+
+abbrev text : tie.After-load → List ℕ
+text c = now (entry c .before .args .text)
+
+abbrev lent : tie.After-load → Tables
+lent c = let args = entry c .before .args in tables (now (args .fences)) (now (args .tails)) (now (args .heads)) (now (args .lengths)) (now (args .speeds))
+
+bytes : (c : tie.After-load) → Bytes (text c)
+bytes c i h = entry c .shared-slice-known .given i .fits
+
+abbrev reply : tie.After-junctions → Counts
+reply c = let fields = c .junctions .given .0 in counts (fields .0) (fields .1 .0) (fields .1 .1 .0)
+
+answered : (c : tie.After-junctions) → let load = called (c .before .before) in accepted (reply c) ≡ loadAnswer (text load) (lent load)
+answered c = sym (ap readingOf (c .junctions .given .1)) ∙ called (c .before .before) .load .ensures .0
+
+add-result-2 : tie.Need-add-result-2
+add-result-2 c =
+    let told = c .before in
+    let load = called (told .before .before) in
+    let fit : CountsFit (reply told) = counts-fit (text load) (lent load) (bytes load) (sym (answered told)) in
+    omega (arith, fit .junctions-fit, fit .intervals-fit, fit .arcs-fit)
+
+add-result-3 : tie.Need-add-result-3
+add-result-3 c = omega (arith, c .number .ensures, number-fits (c .before .before .refusal .given .0 .0))
+
+add-result-4 : tie.Need-add-result-4
+add-result-4 c = omega (arith, c .number .ensures, number-fits (c .before .before .refusal .given .0 .0))
+
+returns : tie.Need-returns
+returns c = (ap loadCode (answered (c .before)), called (c .before .before .before) .load .ensures .1)
+
+returns-2 : tie.Need-returns-2
+returns-2 c =
+    let told = c .before .before in
+    let load = called (told .before .before) .load in
+    (rw (c .number .ensures) (ap loadCode (sym (ap readingOf (told .refusal .given .1)) ∙ load .ensures .0)), load .ensures .1)
+
+pub exports-load-spec : {M : Type 1} → statement M
+exports-load-spec =
+    tie.close
+    (tie.spec
+    (λ c κs. search needs)
+    (λ c. search needs)
+    (λ c. search needs)
+    (λ c. search needs)
+    (λ c. search needs)
+    (λ c. search needs)
+    (λ c. search needs)
+    (λ c. search needs)
+    add-result-2
+    (λ c. search needs)
+    (λ c κs. search needs)
+    (λ c. search needs)
+    (λ c. search needs)
+    add-result-3
+    (λ c. search needs)
+    add-result-4
+    (λ c. search needs)
+    (λ c. search needs)
+    (λ c. search needs)
+    (λ c. search needs)
+    (λ c. search needs)
+    returns
+    (λ c. search needs)
+    (λ c. search needs)
+    (λ c. search needs)
+    (λ c. search needs)
+    (λ c. search needs)
+    returns-2)

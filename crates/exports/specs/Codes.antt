@@ -1,0 +1,34 @@
+-- The number that each function for C answers, from what its operation comes to.
+use Prim.Native.Nat.{ℕ, _+_, _*_, _^_}
+use mathlib.Core.Option.{Option, none, some}
+use Rattle.model.specs.Ticks.{never}
+use Rattle.model.specs.Refusals.{refusalBase}
+use Rattle.model.specs.Rules.{Outcome, refused, replied}
+use Rattle.townfile.specs.FirstFault.{Reading, refusedAt, accepted}
+use Rattle.townfile.specs.Load.{Counts}
+use Rattle.townfile.specs.declared.part.Part.{Part}
+
+-- Network check and Labels: the refusal's number, or 0. No refusal has number 0.
+abbrev pub numberOr0 : Outcome (Unit {0}) → ℕ
+numberOr0 (refused number) = number
+numberOr0 (replied tt) = 0
+
+-- Arc arrival: the refusal's code, the tick, or `never` where the arc cannot be driven.
+abbrev pub arrivalCode : Outcome (Option ℕ) → ℕ
+arrivalCode (refused number) = refusalBase + number
+arrivalCode (replied (some tick)) = tick
+arrivalCode (replied none) = never
+
+-- Route: the refusal's code, or the number of arcs.
+abbrev pub countCode : Outcome ℕ → ℕ
+countCode (refused number) = refusalBase + number
+countCode (replied count) = count
+
+-- Load: the counts, each from a bit of its own on, or 2^63 with the refusal's number and line.
+abbrev pub loadCode : Reading Counts → ℕ
+loadCode (refusedAt number line) = 2 ^ 63 + number * 2 ^ 32 + line
+loadCode (accepted reply) = reply .junctions + reply .intervals * 2 ^ 16 + reply .arcs * 2 ^ 32
+
+-- Name: where it starts, and its length. 0 says that there is none.
+abbrev pub placeCode : Part → ℕ
+placeCode place = place .start * 2 ^ 32 + place .length

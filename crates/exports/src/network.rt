@@ -1,0 +1,121 @@
+// Network check, Arc arrival, Labels and Route, over lent tables.
+ghost use mathlib.Core.Path.{_≡_};
+ghost use Rattle.model.specs.Network.{network};
+ghost use Rattle.model.specs.NetworkRules.{networkCheck};
+ghost use Rattle.driving.specs.ArcArrival.{arcArrival};
+ghost use Rattle.reckoning.specs.Labels.{labelsAnswer, labelsAfter, predecessorsAfter};
+ghost use Rattle.reckoning.specs.Route.{routeAnswer, arcsAfter};
+ghost use Rattle.exports.specs.Codes.{numberOr0, arrivalCode, countCode};
+use checking::network::NetworkCheck;
+use checking::network::network_check;
+use driving::arc::ArcArrival;
+use driving::arc::arc_arrival;
+use model::label::UNREACHED;
+use model::tick::Tick;
+use reckoning::labels::Labelled;
+use reckoning::route::Routed;
+use reckoning::route::route;
+
+// 0, or the refusal's number.
+#[no_mangle]
+pub extern "C" fn exports_network_check(
+    junctions: u32,
+    fences: &[u32],
+    tails: &[u16],
+    heads: &[u16],
+    lengths: &[u32],
+    speeds: &[u8],
+) -> u32
+    ensures { λ r. ⌜ r ≡ numberOr0 (networkCheck (network junctions (now (fences .entry)) (now (tails .entry)) (now (heads .entry)) (now (lengths .entry)) (now (speeds .entry)))) ⌝ }
+{
+    match network_check(junctions, fences, tails, heads, lengths, speeds) {
+        NetworkCheck::Accepted => 0,
+        NetworkCheck::Refused(refusal) => refusal.number(),
+    }
+}
+
+// The tick, 4,294,967,295 where the arc cannot be driven, or the refusal's code.
+#[no_mangle]
+pub extern "C" fn exports_arc_arrival(
+    departure: u32,
+    metres: u32,
+    fences: &[u32],
+    speeds: &[u8],
+) -> u32
+    ensures { λ r. ⌜ r ≡ arrivalCode (arcArrival departure metres (now (fences .entry)) (now (speeds .entry))) ⌝ }
+{
+    match arc_arrival(Tick { number: departure }, metres, fences, speeds) {
+        ArcArrival::At(tick) => tick.number,
+        ArcArrival::CannotBeDriven => UNREACHED,
+        ArcArrival::Refused(refusal) => refusal.code(),
+    }
+}
+
+// 0, or the refusal's number.
+#[no_mangle]
+pub extern "C" fn exports_labels(
+    junctions: u32,
+    fences: &[u32],
+    tails: &[u16],
+    heads: &[u16],
+    lengths: &[u32],
+    speeds: &[u8],
+    source: u32,
+    departure: u32,
+    labels: &mut [u32],
+    predecessors: &mut [u16],
+) -> u32
+    ensures answer { λ r. ⌜ r ≡ numberOr0 (labelsAnswer (network junctions (now (fences .entry)) (now (tails .entry)) (now (heads .entry)) (now (lengths .entry)) (now (speeds .entry))) source departure (now (labels .entry)) (now (predecessors .entry))) ⌝ }
+    ensures labels { λ _. ⌜ now (labels .exit) ≡ labelsAfter (network junctions (now (fences .entry)) (now (tails .entry)) (now (heads .entry)) (now (lengths .entry)) (now (speeds .entry))) source departure (now (labels .entry)) (now (predecessors .entry)) ⌝ }
+    ensures predecessors { λ _. ⌜ now (predecessors .exit) ≡ predecessorsAfter (network junctions (now (fences .entry)) (now (tails .entry)) (now (heads .entry)) (now (lengths .entry)) (now (speeds .entry))) source departure (now (labels .entry)) (now (predecessors .entry)) ⌝ }
+{
+    match reckoning::labels::labels(
+        junctions,
+        fences,
+        tails,
+        heads,
+        lengths,
+        speeds,
+        source,
+        Tick { number: departure },
+        labels,
+        predecessors,
+    ) {
+        Labelled::Written => 0,
+        Labelled::Refused(refusal) => refusal.number(),
+    }
+}
+
+// The number of arcs, or the refusal's code.
+#[no_mangle]
+pub extern "C" fn exports_route(
+    junctions: u32,
+    fences: &[u32],
+    tails: &[u16],
+    heads: &[u16],
+    lengths: &[u32],
+    speeds: &[u8],
+    source: u32,
+    departure: u32,
+    destination: u32,
+    arcs: &mut [u16],
+) -> u32
+    ensures answer { λ r. ⌜ r ≡ countCode (routeAnswer (network junctions (now (fences .entry)) (now (tails .entry)) (now (heads .entry)) (now (lengths .entry)) (now (speeds .entry))) source departure destination (now (arcs .entry))) ⌝ }
+    ensures arcs { λ _. ⌜ now (arcs .exit) ≡ arcsAfter (network junctions (now (fences .entry)) (now (tails .entry)) (now (heads .entry)) (now (lengths .entry)) (now (speeds .entry))) source departure destination (now (arcs .entry)) ⌝ }
+{
+    match route(
+        junctions,
+        fences,
+        tails,
+        heads,
+        lengths,
+        speeds,
+        source,
+        Tick { number: departure },
+        destination,
+        arcs,
+    ) {
+        Routed::Arcs { count, arrival: _ } => count,
+        Routed::Refused(refusal) => refusal.code(),
+    }
+}

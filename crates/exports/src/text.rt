@@ -1,0 +1,53 @@
+// Load and Name, over a town file.
+ghost use mathlib.Core.Path.{_≡_};
+ghost use Rattle.townfile.specs.Load.{tables, loadAnswer, tablesAfter};
+ghost use Rattle.townfile.specs.Name.{namePlace};
+ghost use Rattle.exports.specs.Codes.{loadCode, placeCode};
+use loading::load::Loaded;
+use loading::load::load;
+use loading::name::name_place;
+
+const BIT_16: u64 = 1 << 16;
+
+const BIT_32: u64 = 1 << 32;
+
+// Load's answer has it where the text is refused.
+const BIT_63: u64 = 1 << 63;
+
+// junctions + intervals × 2^16 + arcs × 2^32, or 2^63 + the refusal's number × 2^32 + its line.
+#[no_mangle]
+pub extern "C" fn exports_load(
+    text: &[u8],
+    fences: &mut [u32],
+    tails: &mut [u16],
+    heads: &mut [u16],
+    lengths: &mut [u32],
+    speeds: &mut [u8],
+) -> u64
+    ensures answer { λ r. ⌜ r ≡ loadCode (loadAnswer (now (text .entry)) (tables (now (fences .entry)) (now (tails .entry)) (now (heads .entry)) (now (lengths .entry)) (now (speeds .entry)))) ⌝ }
+    ensures fences { λ _. ⌜ now (fences .exit) ≡ tablesAfter (now (text .entry)) (tables (now (fences .entry)) (now (tails .entry)) (now (heads .entry)) (now (lengths .entry)) (now (speeds .entry))) .fences ⌝ }
+    ensures tails { λ _. ⌜ now (tails .exit) ≡ tablesAfter (now (text .entry)) (tables (now (fences .entry)) (now (tails .entry)) (now (heads .entry)) (now (lengths .entry)) (now (speeds .entry))) .tails ⌝ }
+    ensures heads { λ _. ⌜ now (heads .exit) ≡ tablesAfter (now (text .entry)) (tables (now (fences .entry)) (now (tails .entry)) (now (heads .entry)) (now (lengths .entry)) (now (speeds .entry))) .heads ⌝ }
+    ensures lengths { λ _. ⌜ now (lengths .exit) ≡ tablesAfter (now (text .entry)) (tables (now (fences .entry)) (now (tails .entry)) (now (heads .entry)) (now (lengths .entry)) (now (speeds .entry))) .lengths ⌝ }
+    ensures speeds { λ _. ⌜ now (speeds .exit) ≡ tablesAfter (now (text .entry)) (tables (now (fences .entry)) (now (tails .entry)) (now (heads .entry)) (now (lengths .entry)) (now (speeds .entry))) .speeds ⌝ }
+{
+    match load(text, fences, tails, heads, lengths, speeds) {
+        Loaded::Counts {
+            junctions,
+            intervals,
+            arcs,
+        } => junctions as u64 + intervals as u64 * BIT_16 + arcs as u64 * BIT_32,
+        Loaded::Refused { refusal, line } => {
+            BIT_63 + refusal.number() as u64 * BIT_32 + line as u64
+        }
+    }
+}
+
+// Where the name starts × 2^32 + its length; 0 where there is none.
+#[no_mangle]
+pub extern "C" fn exports_name(text: &[u8], junction: u32) -> u64
+    ensures { λ r. ⌜ r ≡ placeCode (namePlace (now (text .entry)) junction) ⌝ }
+{
+    let place = name_place(text, junction);
+    place.start as u64 * BIT_32 + place.length as u64
+}

@@ -1,148 +1,87 @@
--- A number digit by digit: the digits left from here on, behind what has been read, are the whole word.
-use Prim.Native.Nat.{ℕ, suc, _+_, _-_, _*_, _^_, _≤_, _<_, min}
+-- A number digit by digit: what is left from a place on, behind what has been read, gives what the whole gives. A number whose first
+-- digit is not 0 has as many digits as its size tells, so they need not be counted.
+use Prim.Native.Nat.{ℕ, suc, _+_, _-_, _*_, _^_, _≤_, _<_}
 use mathlib.Core.Path.{_≡_, refl, sym, ap, _∙_}
-use mathlib.Core.Bool.{Bool, true, false, cond, not, _&&_, _||_}
-use mathlib.Core.Logic.{inl, inr}
+use mathlib.Core.Bool.{Bool, true, false, cond, _&&_}
+use mathlib.Core.Logic.{_⊎_, inl, inr}
 use mathlib.Core.List.{List, [], _∷_}
-use native.Mathlib.Nat.{lt-of-lt-of-le, pow-suc, one-le-pow, pow-le-pow-right}
+use native.Mathlib.Nat.{lt-of-lt-of-le, le-trans, pow-suc, pow-le-pow-right}
 use native.Mathlib.Omega.{arith}
-use lib.Dec.{leb, ltb, eqb}
+use lib.Dec.{leb, ltb, eqb, eqb·suc-zero}
 use lib.ListN.{length, getD}
-use borrow.Author.Tests.{lt-ltb, le-ltb, le-leb, lt-leb, eq-eqb, ne-eqb}
+use borrow.Author.Tests.{lt-ltb, le-ltb, leb-true, le-leb, lt-leb, eq-eqb, ne-eqb}
 use Rattle.model.specs.Rules.{every}
-use Rattle.model.proofs.Tests.{eqb-cases, leb-cases, ltb-cases}
+use Rattle.model.proofs.Rules.{true-both}
+use Rattle.model.proofs.Tests.{eqb-cases, leb-cases}
 use Rattle.townfile.specs.Bytes.{lineFeed, space, digit}
 use Rattle.townfile.specs.Numbers.{decimalFrom, decimal, numberKeeps}
-use Rattle.loading.specs.Fields.{lineFrom, wordFrom, fieldAt, numberFrom}
+use Rattle.townfile.proofs.Between.{between-every}
+use Rattle.townfile.proofs.NumberForm.{keeps-number}
+use Rattle.loading.specs.Fields.{lineFrom, wordFrom, fieldAt, justZero, numberFrom}
 use Rattle.loading.specs.declared.field.Field.the-variants.{Number, Malformed}
-use Rattle.loading.proofs.LineFrom.{line-ends, line-feed-ends, line-goes-on, word-ends, space-ends, word-goes-on}
+use Rattle.loading.proofs.LineFrom.{line-ends, line-feed-ends, line-goes-on, word-ends, separator-ends, word-goes-on}
+use Rattle.loading.proofs.NumbersLeft.{and-false}
 
--- ---- The form of a number whose digits are counted
+-- ---- How great a number is
 
-module _ (text : List ℕ) (first end value : ℕ) where
-  pub no-digit : end ≤ first → Malformed ≡ numberFrom text first end value
-  unfolding numberFrom
-  no-digit h = rw (le-ltb 0 (end - first) (omega arith))
+pub decimal-grows : (n : ℕ) (bytes : List ℕ) → n ≤ decimalFrom n bytes
+unfolding decimalFrom
+decimal-grows n [] = omega arith
+decimal-grows n (byte ∷ bytes) = omega (arith, decimal-grows (n * 10 + (byte - 48)) bytes)
 
-  pub too-many-digits : first < end → 7 < end - first → Malformed ≡ numberFrom text first end value
-  unfolding numberFrom
-  too-many-digits h l = rw (lt-ltb 0 (end - first) (omega arith), lt-leb (end - first) 7 l)
+-- A number of k digits and more behind it, and how many there are in all.
+decimal-least : (least k n : ℕ) (bytes : List ℕ) → 10 ^ k ≤ n → least ≤ k + length bytes → 10 ^ least ≤ decimalFrom n bytes
+unfolding decimalFrom
+decimal-least least k n [] h many = le-trans (pow-le-pow-right {n = 10} (omega arith) {i = least} {j = k} (omega arith)) h
+decimal-least least k n (byte ∷ bytes) h many = decimal-least least (suc k) (n * 10 + (byte - 48)) bytes (omega (arith, pow-suc 10 k)) (omega arith)
 
-  pub one-digit : first < end → end - first ≡ 1 → Number value end ≡ numberFrom text first end value
-  unfolding numberFrom
-  one-digit h l = rw l (go (not (eqb (getD text first 0) 48)))
-    where
-      go : (other : Bool) → Number value end ≡ cond (other || true) (Number value end) Malformed
-      go true = refl
-      go false = refl
+decimal-below : (most k n : ℕ) (bytes : List ℕ) → every digit bytes ≡ true → n < 10 ^ k → k + length bytes ≤ most → decimalFrom n bytes < 10 ^ most
+unfolding decimalFrom every
+decimal-below most k n [] e h few = lt-of-lt-of-le h (pow-le-pow-right {n = 10} (omega arith) {i = k} {j = most} (omega arith))
+decimal-below most k n (byte ∷ bytes) e h few =
+    let parts = true-both (digit byte) (every digit bytes) e in
+    let high = leb-true byte 57 (true-both (leb 48 byte) (leb byte 57) (parts .0) .1) in
+    decimal-below most (suc k) (n * 10 + (byte - 48)) bytes (parts .1) (omega (arith, pow-suc 10 k)) (omega arith)
 
-  module _ (some : first < end) (few : end - first ≤ 7) (several : end - first ≡ 1 → ⊥) where
-    pub leading-zero : getD text first 0 ≡ 48 → Malformed ≡ numberFrom text first end value
-    unfolding numberFrom
-    leading-zero e = rw (lt-ltb 0 (end - first) (omega arith), le-leb (end - first) 7 few, eq-eqb (getD text first 0) 48 e, ne-eqb (end - first) 1 several)
-
-    pub no-leading-zero : (getD text first 0 ≡ 48 → ⊥) → Number value end ≡ numberFrom text first end value
-    unfolding numberFrom
-    no-leading-zero e = rw (lt-ltb 0 (end - first) (omega arith), le-leb (end - first) 7 few, ne-eqb (getD text first 0) 48 e)
-
--- ---- So far
-
-pub record DigitsRead (text : List ℕ) (first i value : ℕ) : Type 0 where
-  pub from-first : first ≤ i
-  pub value-fits : value < 10 ^ (i - first)
-  pub value-left : decimalFrom value (wordFrom text i) ≡ decimal (wordFrom text first)
-  pub length-left : i + length (wordFrom text i) ≡ first + length (wordFrom text first)
-  pub digits-left : every digit (wordFrom text i) ≡ every digit (wordFrom text first)
-
-power-after : (n m value d : ℕ) → m ≡ suc n → value < 10 ^ n → d < 10 → value * 10 + d < 10 ^ m
-power-after n m value d e small one = rw e (omega (arith, pow-suc 10 n))
-
-pub none-read : (text : List ℕ) (first : ℕ) → DigitsRead text first first 0
-none-read text first = record { from-first = omega arith; value-fits = one-le-pow (first - first) 10 (omega arith); value-left = refl; length-left = refl; digits-left = refl }
-
-pub value-below : {text : List ℕ} {first i value : ℕ} → DigitsRead text first i value → i - first ≤ 7 → value < 10000000
-value-below r h = lt-of-lt-of-le (r .value-fits) (pow-le-pow-right {n = 10} (omega arith) h)
-
-module _ (text : List ℕ) (first i value : ℕ) (r : DigitsRead text first i value) (h : i < length text) where
-  pub digit-read : 48 ≤ getD text i 0 → getD text i 0 < 58 → DigitsRead text first (i + 1) (value * 10 + (getD text i 0 - 48))
-  unfolding every decimalFrom
-  digit-read low high =
-      let word : wordFrom text i ≡ getD text i 0 ∷ wordFrom text (i + 1) = word-goes-on text i h (λ e. omega arith) (λ e. omega arith) in
-      record {
-        from-first = omega (arith, r .from-first);
-        value-fits = power-after (i - first) (i + 1 - first) value (getD text i 0 - 48) (omega (arith, r .from-first)) (r .value-fits) (omega arith);
-        value-left = rw word at (r .value-left);
-        length-left = omega (arith, ap length word, r .length-left);
-        digits-left = rw (word, every, le-leb 48 (getD text i 0) low, le-leb (getD text i 0) 57 (omega arith)) at (r .digits-left);
-      }
-
--- ---- The end
-
--- A word that has a byte begins with the text's byte there.
-word-begins : (text : List ℕ) (first : ℕ) → 0 < length (wordFrom text first) → getD (wordFrom text first) 0 0 ≡ getD text first 0
-word-begins text first some = elim (ltb-cases first (length text)) [
-  | inr past ↦ absurd (omega (arith, some, ap length (word-ends text first (line-ends text first (past .1)))))
-  | inl inside ↦ elim (eqb-cases (getD text first 0) lineFeed) [
-    | inl feed ↦ absurd (omega (arith, some, ap length (word-ends text first (line-feed-ends text first (inside .1) (feed .1)))))
-    | inr other ↦ elim (eqb-cases (getD text first 0) space) [
-      | inl gap ↦ absurd (omega (arith, some, ap length (space-ends text first (inside .1) (gap .1))))
-      | inr byte ↦ rw (word-goes-on text first (inside .1) (other .1) (byte .1))
-    ]
-  ]
+-- So many digits and such a size are the same, where the first digit is not 0.
+few-digits : (first : ℕ) (more : List ℕ) → 1 ≤ first → first < 10 → every digit more ≡ true → leb (suc (length more)) 7 ≡ ltb (decimalFrom first more) 10000000
+few-digits first more low high e = elim (leb-cases (suc (length more)) 7) [
+  | inl few ↦ rw (few .0) (sym (lt-ltb (decimalFrom first more) 10000000 (decimal-below 7 1 first more e high (omega (arith, few .1)))))
+  | inr many ↦ rw (many .0) (sym (le-ltb (decimalFrom first more) 10000000 (decimal-least 7 0 first more low (omega (arith, many .1)))))
 ]
 
-tests-agree : (n b c : ℕ) → (0 < n → c ≡ b) → (ltb 0 n && leb n 7 && true && (not (eqb c 48) || eqb n 1)) ≡ (ltb 0 n && leb n 7 && (not (eqb b 48) || eqb n 1))
-tests-agree n b c same = elim (ltb-cases 0 n) [
-  | inr none ↦ rw (none .0)
-  | inl some ↦ rw (some .0, same (some .1)) (go (leb n 7))
-]
+pub all-digits : (bytes : List ℕ) → numberKeeps bytes ≡ true → every digit bytes ≡ true
+all-digits bytes e = between-every 48 57 bytes (keeps-number bytes e .digits)
+
+pub number-below : (bytes : List ℕ) → numberKeeps bytes ≡ true → decimal bytes < 10000000
+number-below bytes e = decimal-below 7 0 0 bytes (all-digits bytes e) (omega arith) (omega (arith, keeps-number bytes e .few-digits))
+
+-- ---- The form of a number, by its first digit
+
+unless-true : (test : Bool) → (test ≡ true → ⊥) → test ≡ false
+unless-true true other = absurd (other refl)
+unless-true false other = refl
+
+keeps-zero : (more : List ℕ) → numberKeeps (48 ∷ more) ≡ eqb (length more) 0
+unfolding numberKeeps every
+keeps-zero [] = refl
+keeps-zero (byte ∷ more) = unless-true _ (λ e. omega (arith, keeps-number (48 ∷ byte ∷ more) e .no-leading-zero refl)) ∙ sym (eqb·suc-zero (length more))
+
+keeps-digit : (first : ℕ) (more : List ℕ) → 49 ≤ first → first < 58 → numberKeeps (first ∷ more) ≡ (every digit more && ltb (decimalFrom (first - 48) more) 10000000)
+unfolding numberKeeps every
+keeps-digit first more low high =
+    rw (lt-ltb 0 (suc (length more)) (omega arith), le-leb 48 first (omega arith), le-leb first 57 (omega arith), ne-eqb first 48 (λ e. omega arith))
+    (go (every digit more) (leb (suc (length more)) 7) (ltb (decimalFrom (first - 48) more) 10000000) (few-digits (first - 48) more (omega arith) (omega arith)))
   where
-    go : (few : Bool) → (few && true && (not (eqb b 48) || eqb n 1)) ≡ (few && (not (eqb b 48) || eqb n 1))
-    go true = refl
-    go false = refl
+    go : (digits few below : Bool) → (digits ≡ true → few ≡ below) → (few && digits && true) ≡ (digits && below)
+    go true true below same = same refl
+    go true false below same = same refl
+    go false true below same = refl
+    go false false below same = refl
 
-module _ (text : List ℕ) (at i value : ℕ) (here : at < length text) (gap : getD text at 0 ≡ space) (r : DigitsRead text (at + 1) i value) where
-  is-gap : eqb (getD (lineFrom text at) 0 0) space ≡ true
-  is-gap = rw (line-goes-on text at here (λ e. omega arith)) (eq-eqb (getD text at 0) space gap)
-
-  word-length : wordFrom text i ≡ [] → length (wordFrom text (at + 1)) ≡ i - (at + 1)
-  word-length e = omega (arith, r .length-left, ap length e, r .from-first)
-
-  form-is : wordFrom text i ≡ [] → numberKeeps (wordFrom text (at + 1)) ≡ (ltb 0 (i - (at + 1)) && leb (i - (at + 1)) 7 && (not (eqb (getD text (at + 1) 0) 48) || eqb (i - (at + 1)) 1))
-  unfolding numberKeeps every
-  form-is e =
-      rw (word-length e, sym (rw e at (r .digits-left)))
-      (tests-agree (i - (at + 1)) (getD text (at + 1) 0) (getD (wordFrom text (at + 1)) 0 0) (λ some. word-begins text (at + 1) (rw (word-length e) some)))
-
-  pub number-ends : wordFrom text i ≡ [] → numberFrom text (at + 1) i value ≡ fieldAt text at
-  unfolding numberFrom fieldAt decimalFrom
-  number-ends e =
-      let same : value ≡ decimal (wordFrom text (at + 1)) = rw e at (r .value-left) in
-      let end : at + 1 + length (wordFrom text (at + 1)) ≡ i = omega (arith, word-length e, r .from-first) in
-      rw (is-gap, form-is e, end, ← same)
-
-  pub number-too-long : 8 ≤ i - (at + 1) → numberFrom text (at + 1) i value ≡ fieldAt text at
-  unfolding fieldAt numberKeeps
-  number-too-long l =
-      let long : 7 < length (wordFrom text (at + 1)) = omega (arith, r .length-left, r .from-first) in
-      sym (too-many-digits text (at + 1) i value (omega arith) (omega arith))
-      ∙ rw (is-gap, lt-ltb 0 (length (wordFrom text (at + 1))) (omega arith), lt-leb (length (wordFrom text (at + 1))) 7 long)
-
-  pub number-at-limit : (limit : ℕ) → limit ≡ min (at + 1 + 8) (length text) → limit ≤ i → i ≤ limit → numberFrom text (at + 1) i value ≡ fieldAt text at
-  number-at-limit limit is past most = elim (leb-cases (length text) i) [
-    | inl end ↦ number-ends (word-ends text i (line-ends text i (end .1)))
-    | inr more ↦ number-too-long (omega arith)
-  ]
-
-  pub no-number : i < length text → (getD text i 0 ≡ lineFeed → ⊥) → (getD text i 0 ≡ space → ⊥) → digit (getD text i 0) ≡ false → Malformed ≡ fieldAt text at
-  unfolding fieldAt numberKeeps every
-  no-number h f s other =
-      let bad : every digit (wordFrom text (at + 1)) ≡ false = sym (r .digits-left) ∙ rw (word-goes-on text i h f s, every, other) in
-      rw (is-gap, bad) (go (ltb 0 (length (wordFrom text (at + 1))) && leb (length (wordFrom text (at + 1))) 7))
-    where
-      go : (a : Bool) → Malformed ≡ cond (a && false && (not (eqb (getD (wordFrom text (at + 1)) 0 0) 48) || eqb (length (wordFrom text (at + 1))) 1)) (Number (decimal (wordFrom text (at + 1))) (at + 1 + length (wordFrom text (at + 1)))) Malformed
-      go true = refl
-      go false = refl
+keeps-no-other : (first : ℕ) (more : List ℕ) → digit first ≡ false → numberKeeps (first ∷ more) ≡ false
+unfolding every
+keeps-no-other first more e = unless-true _ (λ kept. let z : _≡_ {A = ℕ} 0 1 = cc (rw e at (all-digits (first ∷ more) kept)) in omega arith)
 
 pub below-digits : (byte : ℕ) → byte < 48 → digit byte ≡ false
 below-digits byte h = rw (lt-leb 48 byte h)
@@ -162,3 +101,98 @@ no-field-without-gap text at h e = elim (eqb-cases (getD text at 0) lineFeed) [
   | inl feed ↦ rw (line-feed-ends text at h (feed .1))
   | inr other ↦ rw (line-goes-on text at h (other .1), ne-eqb (getD text at 0) space e)
 ]
+
+-- ---- A field by its first digit
+
+module _ (text : List ℕ) (at : ℕ) (here : at < length text) (gap : getD text at 0 ≡ space) where
+  is-gap : eqb (getD (lineFrom text at) 0 0) space ≡ true
+  is-gap = rw (line-goes-on text at here (λ e. omega arith)) (eq-eqb (getD text at 0) space gap)
+
+  no-digit : wordFrom text (at + 1) ≡ [] → Malformed ≡ fieldAt text at
+  unfolding fieldAt numberKeeps
+  no-digit e = rw (is-gap, e)
+
+  pub no-digit-at-end : length text ≤ at + 1 → Malformed ≡ fieldAt text at
+  no-digit-at-end h = no-digit (word-ends text (at + 1) (line-ends text (at + 1) h))
+
+  module _ (inside : at + 1 < length text) where
+    pub no-first-digit : digit (getD text (at + 1) 0) ≡ false → Malformed ≡ fieldAt text at
+    unfolding fieldAt
+    no-first-digit e = elim (eqb-cases (getD text (at + 1) 0) lineFeed) [
+      | inl feed ↦ no-digit (separator-ends text (at + 1) inside (inl (feed .1)))
+      | inr other ↦ elim (eqb-cases (getD text (at + 1) 0) space) [
+        | inl parted ↦ no-digit (separator-ends text (at + 1) inside (inr (parted .1)))
+        | inr byte ↦ rw (is-gap, word-goes-on text (at + 1) inside (other .1) (byte .1), keeps-no-other (getD text (at + 1) 0) (wordFrom text (at + 1 + 1)) e)
+      ]
+    ]
+
+    pub first-zero : getD text (at + 1) 0 ≡ 48 → justZero text (at + 1 + 1) ≡ fieldAt text at
+    unfolding fieldAt justZero decimalFrom
+    first-zero e =
+        let word = word-goes-on text (at + 1) inside (λ f. omega arith) (λ s. omega arith) in
+        rw (is-gap, word, e, keeps-zero (wordFrom text (at + 1 + 1))) (go (wordFrom text (at + 1 + 1)))
+      where
+        go : (more : List ℕ) → cond (eqb (length more) 0) (Number 0 (at + 1 + 1)) Malformed ≡ cond (eqb (length more) 0) (Number (decimal (48 ∷ more)) (at + 1 + length (48 ∷ more))) Malformed
+        go [] = refl
+        go (byte ∷ more) = rw (eqb·suc-zero (length more))
+
+    pub first-digit : (getD text (at + 1) 0 ≡ 48 → ⊥) → 48 ≤ getD text (at + 1) 0 → getD text (at + 1) 0 < 58 → numberFrom text (at + 1 + 1) (getD text (at + 1) 0 - 48) ≡ fieldAt text at
+    unfolding fieldAt numberFrom decimalFrom
+    first-digit other low high =
+        let first = getD text (at + 1) 0 in
+        let more = wordFrom text (at + 1 + 1) in
+        let word : wordFrom text (at + 1) ≡ first ∷ more = word-goes-on text (at + 1) inside (λ e. omega arith) (λ e. omega arith) in
+        let value : 0 * 10 + (first - 48) ≡ first - 48 = omega arith in
+        let end : at + 1 + suc (length more) ≡ at + 1 + 1 + length more = omega arith in
+        rw (is-gap, word, keeps-digit first more (omega arith) high, decimalFrom, value, end)
+
+-- ---- The end of a 0
+
+module _ (text : List ℕ) (end : ℕ) where
+  pub zero-ends : wordFrom text end ≡ [] → Number 0 end ≡ justZero text end
+  unfolding justZero
+  zero-ends e = rw e
+
+  pub zero-goes-on : end < length text → ((getD text end 0 ≡ lineFeed) ⊎ (getD text end 0 ≡ space) → ⊥) → Malformed ≡ justZero text end
+  unfolding justZero
+  zero-goes-on h other = rw (word-goes-on text end h (λ feed. other (inl feed)) (λ gap. other (inr gap)), eqb·suc-zero (length (wordFrom text (end + 1))))
+
+-- ---- Further digits
+
+-- A digit more, and what is left behind it.
+module _ (text : List ℕ) (i value : ℕ) (inside : i < length text) (low : 48 ≤ getD text i 0) (high : getD text i 0 < 58) where
+  abbrev with-digit : ℕ
+  with-digit = value * 10 + (getD text i 0 - 48)
+
+  digit-word : wordFrom text i ≡ getD text i 0 ∷ wordFrom text (i + 1)
+  digit-word = word-goes-on text i inside (λ e. omega arith) (λ e. omega arith)
+
+  pub value-left : decimalFrom with-digit (wordFrom text (i + 1)) ≡ decimalFrom value (wordFrom text i)
+  unfolding decimalFrom
+  value-left = rw digit-word
+
+  pub end-left : i + 1 + length (wordFrom text (i + 1)) ≡ i + length (wordFrom text i)
+  end-left = rw digit-word (omega arith)
+
+  pub digits-left : every digit (wordFrom text (i + 1)) ≡ every digit (wordFrom text i)
+  unfolding every
+  digits-left = rw (digit-word, every, le-leb 48 (getD text i 0) low, le-leb (getD text i 0) 57 (omega arith))
+
+  pub number-goes-on : numberFrom text (i + 1) with-digit ≡ numberFrom text i value
+  unfolding numberFrom
+  number-goes-on = rw (digits-left, value-left, end-left)
+
+  pub number-too-long : 999999 < value → Malformed ≡ numberFrom text i value
+  unfolding numberFrom
+  number-too-long h =
+      let long = le-ltb (decimalFrom value (wordFrom text i)) 10000000 (omega (arith, decimal-grows with-digit (wordFrom text (i + 1)), value-left)) in
+      rw (long, and-false)
+
+module _ (text : List ℕ) (i value : ℕ) where
+  pub number-ends : wordFrom text i ≡ [] → value < 10000000 → Number value i ≡ numberFrom text i value
+  unfolding numberFrom decimalFrom every
+  number-ends e h = rw (e, lt-ltb value 10000000 h) (ap (Number value) (omega arith))
+
+  pub number-stops : i < length text → ((getD text i 0 ≡ lineFeed) ⊎ (getD text i 0 ≡ space) → ⊥) → digit (getD text i 0) ≡ false → Malformed ≡ numberFrom text i value
+  unfolding numberFrom every
+  number-stops h other e = rw (word-goes-on text i h (λ feed. other (inl feed)) (λ gap. other (inr gap)), every, e)

@@ -1,19 +1,22 @@
 -- A text without fault fills tables that are long enough: each of its lines keeps the form and the limits that the progress at that
 -- line asks, and once the town's line is read the intervals are those of the end.
-use Prim.Native.Nat.{ℕ, suc, _+_, _≤_}
+use Prim.Native.Nat.{ℕ, zero, suc, _+_, _-_, _≤_, _<_}
 use mathlib.Core.Path.{_≡_, refl, sym, _∙_}
 use mathlib.Core.Bool.{Bool, true, false, cond, _&&_}
+use mathlib.Core.Logic.{inl, inr}
 use mathlib.Core.List.{List, [], _∷_}
 use native.Mathlib.Omega.{arith}
 use lib.Dec.{leb, ltb, eqb}
-use lib.ListN.{length, getD, drop}
+use lib.ListN.{length, getD, drop, length-append}
+use lib.Seq.{getD-append-add}
 use borrow.Author.Tests.{not-false, ltb-true, leb-true, eqb-true, ne-eqb}
 use Rattle.model.specs.Limits.{maxArcs, maxIntervals, maxJunctions}
 use Rattle.model.specs.NetworkRules.{junctionsKeep}
 use Rattle.model.specs.Rules.{Outcome, refused, replied, every, lengthKeeps, speedKeeps}
 use Rattle.model.proofs.Rules.{true-both, kept-replies, replies-kept}
+use Rattle.model.proofs.Tests.{ltb-cases}
 use Rattle.townfile.specs.Bytes.{lineFeed, pieces}
-use Rattle.townfile.specs.Grammar.{Bytes, Each}
+use Rattle.townfile.specs.Grammar.{Bytes, Each, joined}
 use Rattle.townfile.specs.Lines.{markTN, markFN, markAR, markOf, known, inTurn, markAlone, numbersOf, numbersKeep, formKeeps, endsDiffer, valuesKeep, lineRules, lineRead, lineAnswer}
 use Rattle.townfile.specs.FirstFault.{Reading, refusedAt, accepted, start, atEnd, onward, linesFrom, firstFault}
 use Rattle.townfile.specs.Tables.{marked}
@@ -22,7 +25,10 @@ use Rattle.townfile.specs.declared.progress.Progress.{Progress}
 use Rattle.townfile.proofs.Marks.{Known, known-mark, town-mark, fences-mark, junction-mark, arc-mark, comment-mark}
 use Rattle.townfile.proofs.Described.{described-town}
 use Rattle.townfile.proofs.Loaded.{load-accepts-when-described}
-use Rattle.loading.specs.Filling.{FencesLine, ArcLine, Fillable}
+use Rattle.townfile.proofs.Pieces.{upTo-has-none}
+use Rattle.loading.specs.Fields.{lineFrom}
+use Rattle.loading.specs.Filling.{EndsInside, FencesLine, ArcLine, Fillable}
+use Rattle.loading.proofs.LineFrom.{line-at}
 
 -- ---- One line
 
@@ -149,6 +155,27 @@ lines-fill p q number (line ∷ next ∷ lines) limited e = go (lineAnswer p lin
 
 -- ---- The text
 
+-- The last byte of lines that each end in a line feed is one.
+last-feed : (lines : List (List ℕ)) (k : ℕ) → suc k ≡ length (joined lines) → getD (joined lines) k 0 ≡ lineFeed
+unfolding joined
+last-feed [] k e = absurd (omega arith)
+last-feed (line ∷ lines) k e = go (last-feed lines) (k - length line) (omega (arith, length-append line (lineFeed ∷ joined lines)))
+  where
+    go : ((k : ℕ) → suc k ≡ length (joined lines) → getD (joined lines) k 0 ≡ lineFeed) → (j : ℕ) → k ≡ length line + j → getD (joined (line ∷ lines)) k 0 ≡ lineFeed
+    go later zero place = rw (place, getD-append-add line (lineFeed ∷ joined lines) 0 0)
+    go later (suc j) place = rw (place, getD-append-add line (lineFeed ∷ joined lines) (suc j) 0) (later j (omega (arith, length-append line (lineFeed ∷ joined lines))))
+
+-- So each line ends before the text does.
+lines-end : (lines : List (List ℕ)) (at : ℕ) → at < length (joined lines) → EndsInside (joined lines) at
+unfolding lineFrom
+lines-end lines at h = elim (ltb-cases (at + length (lineFrom (joined lines) at)) (length (joined lines))) [
+  | inl inside ↦ inside .1
+  | inr past ↦
+      let k = length (joined lines) - 1 - at in
+      let within : k < length (lineFrom (joined lines) at) = omega (arith, past .1) in
+      absurd (upTo-has-none lineFeed (drop at (joined lines)) k within (line-at (joined lines) at k within ∙ last-feed lines (at + k) (omega arith)))
+]
+
 pub accepted-fillable : (text : List ℕ) → Bytes text → (p : Progress) → firstFault text ≡ accepted p → (lent : Tables) → tooShort (countsOf p) lent ≡ false →
     Fillable (p .intervals) text (lent .fences) (lent .tails) (lent .heads) (lent .lengths) (lent .speeds)
 unfolding loadAnswer firstFault
@@ -160,6 +187,7 @@ accepted-fillable text bytes p e lent long =
     let room = found .2 in
     let fills = lines-fill start p 1 (pieces lineFeed text) (λ h. absurd (omega arith)) (not-refused (ltb 65536 (length text)) 20 0 (linesFrom start 1 (pieces lineFeed text)) p e) in
     record {
+      lines-end = rw (found .1 .in-lines) (lines-end (found .1 .lines));
       fences-fill = fills .fences-fill;
       arcs-fill = fills .arcs-fill;
       fences-long = rw same (room .fences-long);

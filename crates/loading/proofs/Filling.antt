@@ -16,8 +16,8 @@ use Rattle.townfile.specs.Grammar.{networkOf, Each}
 use Rattle.townfile.specs.Lines.{markFN, markAR, markOf, markAlone, fieldsOf, numbersOf, numbersKeep}
 use Rattle.townfile.specs.Tables.{arcOf, townOf}
 use Rattle.townfile.specs.Load.{Tables, tables}
-use Rattle.loading.specs.Fields.{lineFrom, numbersFrom, filledBy}
-use Rattle.loading.specs.Filling.{ArcFills, FencesLine, ArcLine, Fillable}
+use Rattle.loading.specs.Fields.{lineFrom, numbersFrom}
+use Rattle.loading.specs.Filling.{EndsInside, NumbersFill, ArcFills, FencesLine, ArcLine, Fillable}
 use Rattle.loading.proofs.BehindMark.{BehindMark}
 use Rattle.loading.proofs.MarkedFrom.{markedFrom, none-left, this-marked, this-unmarked}
 
@@ -62,14 +62,17 @@ module _ {text : List ℕ} {at : ℕ} (behind : BehindMark text at) where
   numbers-behind : numbersFrom text (at + 2) ≡ numbersOf (lineFrom text at)
   numbers-behind = ap (map decimal) (sym (behind .fields-are))
 
-  filled-behind : (count : ℕ) → markAlone (lineFrom text at) ≡ true → numbersKeep count (lineFrom text at) ≡ true → filledBy count text (at + 2) ≡ true
-  filled-behind count alone form =
+  fill-behind : EndsInside text at → (count : ℕ) → markAlone (lineFrom text at) ≡ true → numbersKeep count (lineFrom text at) ≡ true → NumbersFill count text (at + 2)
+  fill-behind ends count alone form =
       let parts = true-both (every numberKeeps (fieldsOf (lineFrom text at))) (eqb (length (fieldsOf (lineFrom text at))) count) form in
-      rw (← (behind .fields-are)) (both-true (both-true (sym (behind .alone-is) ∙ alone) (parts .0)) (parts .1))
+      record {
+        filled = rw (← (behind .fields-are)) (both-true (both-true (sym (behind .alone-is) ∙ alone) (parts .0)) (parts .1));
+        ends = omega (arith, ap length (behind .line-is), ends);
+      }
 
-  arc-behind : (intervals : ℕ) → ArcLine intervals (lineFrom text at) → ArcFills intervals text (at + 2)
-  arc-behind intervals line = record {
-    filled = filled-behind (3 + intervals) (line .alone) (line .form);
+  arc-behind : EndsInside text at → (intervals : ℕ) → ArcLine intervals (lineFrom text at) → ArcFills intervals text (at + 2)
+  arc-behind ends intervals line = record {
+    numbers-fill = fill-behind ends (3 + intervals) (line .alone) (line .form);
     tail-fits = rw numbers-behind (line .tail-fits);
     head-fits = rw numbers-behind (line .head-fits);
     speeds-fit = rw numbers-behind (line .speeds-fit);
@@ -185,10 +188,10 @@ module _ {intervals : ℕ} (text : List ℕ) {before : Tables} (at : ℕ) {fence
     fences-first next e =
         rw (this-marked markFN (λ z. omega arith) text at next e is, this-unmarked markAR (λ z. omega arith) text at next e (λ a. omega arith)) at filled
 
-    pub fences-asked : (filledBy intervals text (at + 2) ≡ true) × (fence + intervals ≤ length (lent .fences))
-    fences-asked =
+    pub fences-asked : EndsInside text at → NumbersFill intervals text (at + 2) × (fence + intervals ≤ length (lent .fences))
+    fences-asked ends =
         let first = fences-first (at + length (lineFrom text at) + 1) refl in
-        (filled-behind behind intervals (this-fences first .alone) (this-fences first .form), fences-room first)
+        (fill-behind behind ends intervals (this-fences first .alone) (this-fences first .form), fences-room first)
 
     pub fences-next : (next : ℕ) → next ≡ at + 2 + length (lineFrom text (at + 2)) + 1 → (after : List ℕ) → after ≡ sets (lent .fences) fence (numbersFrom text (at + 2)) →
         FilledFrom intervals text before next (fence + intervals) arc (tables after (lent .tails) (lent .heads) (lent .lengths) (lent .speeds))
@@ -202,11 +205,11 @@ module _ {intervals : ℕ} (text : List ℕ) {before : Tables} (at : ℕ) {fence
     arc-first next e =
         rw (this-marked markAR (λ z. omega arith) text at next e is, this-unmarked markFN (λ z. omega arith) text at next e (λ a. omega arith)) at filled
 
-    pub arc-asked : ArcFills intervals text (at + 2) ×
+    pub arc-asked : EndsInside text at → ArcFills intervals text (at + 2) ×
         ((arc < length (lent .tails)) × ((arc < length (lent .heads)) × ((arc < length (lent .lengths)) × (arc * intervals + intervals ≤ length (lent .speeds)))))
-    arc-asked =
+    arc-asked ends =
         let first = arc-first (at + length (lineFrom text at) + 1) refl in (
-          arc-behind behind intervals (this-arc first),
+          arc-behind behind ends intervals (this-arc first),
           (omega (arith, first .tails-filled .room), (omega (arith, first .heads-filled .room), (omega (arith, first .lengths-filled .room), speeds-room first))),
         )
 

@@ -1,5 +1,6 @@
 pub mod BehindMark
 pub mod Digits
+pub mod DigitsTaken
 pub mod Fillable
 pub mod Filling
 pub mod LineFrom

@@ -3,7 +3,7 @@
 use Prim.Native.Nat.{ℕ, zero, suc, _+_, _-_, _*_, _≤_, _<_}
 use mathlib.Core.Path.{_≡_, refl, sym, ap, _∙_}
 use mathlib.Core.Bool.{true}
-use mathlib.Core.Logic.{inl, inr}
+use mathlib.Core.Logic.{_⊎_, inl, inr}
 use mathlib.Core.List.{List, [], _∷_}
 use native.Mathlib.Numerals.{add-one}
 use native.Mathlib.Omega.{arith}
@@ -36,6 +36,11 @@ module _ (text : List ℕ) (at : ℕ) where
   pub space-ends : at < length text → getD text at 0 ≡ space → wordFrom text at ≡ []
   unfolding upTo
   space-ends h e = rw (line-goes-on h (λ f. omega arith), upTo, eq-eqb (getD text at 0) space e)
+
+  -- A separator of lines or of fields.
+  pub separator-ends : at < length text → (getD text at 0 ≡ lineFeed) ⊎ (getD text at 0 ≡ space) → wordFrom text at ≡ []
+  separator-ends h (inl feed) = word-ends (line-feed-ends h feed)
+  separator-ends h (inr gap) = space-ends h gap
 
   pub word-goes-on : at < length text → (getD text at 0 ≡ lineFeed → ⊥) → (getD text at 0 ≡ space → ⊥) → wordFrom text at ≡ getD text at 0 ∷ wordFrom text (at + 1)
   unfolding upTo
@@ -116,6 +121,9 @@ module _ (text : List ℕ) (at : ℕ) where
   pub line-at : (k : ℕ) → k < length (lineFrom text at) → getD (lineFrom text at) k 0 ≡ getD text (at + k) 0
   unfolding lineFrom
   line-at k h = upTo-at lineFeed (drop at text) k h ∙ getD-drop at text k 0
+
+  pub word-at : (k : ℕ) → k < length (wordFrom text at) → getD (wordFrom text at) k 0 ≡ getD text (at + k) 0
+  word-at k h = upTo-at space (lineFrom text at) k h ∙ line-at k (omega (arith, upTo-length space (lineFrom text at)))
 
   pub line-inside : length (lineFrom text at) ≤ length text - at
   unfolding lineFrom

@@ -10,11 +10,12 @@ use lib.Dec.{eqb, eqb·suc-suc, eqb·zero-suc, eqb·suc-zero}
 use lib.ListN.{length, getD, drop, length-drop}
 use borrow.Author.Tests.{eqb-true}
 use Rattle.model.specs.Rules.{every}
+use Rattle.model.proofs.Rules.{true-both}
 use Rattle.model.proofs.Tests.{eqb-cases, ltb-cases}
 use Rattle.townfile.specs.Bytes.{lineFeed, space, upTo, pieces}
 use Rattle.townfile.specs.Numbers.{decimal, numberKeeps}
 use Rattle.townfile.proofs.Pieces.{pieces-next, pieces-behind}
-use Rattle.loading.specs.Fields.{lineFrom, wordFrom, fieldAt, fieldsFrom, numbersFrom, filledBy}
+use Rattle.loading.specs.Fields.{lineFrom, wordFrom, fieldKeeps, fieldAt, fieldsFrom, numbersFrom, filledBy}
 use Rattle.loading.specs.LineSteps.{numbersRead}
 use Rattle.loading.specs.declared.field.Field.the-variants as field
 use Rattle.loading.specs.declared.line.Numbers.the-variants.{Within, Outside, Malformed}
@@ -28,6 +29,11 @@ pub record FieldRead (text : List ℕ) (at value next : ℕ) : Type 0 where
   pub number : decimal (wordFrom text (at + 1)) ≡ value
   pub behind : at + 1 + length (wordFrom text (at + 1)) ≡ next
 
+pub kept-field : (text : List ℕ) (at : ℕ) → fieldKeeps text at ≡ true → FieldRead text at (decimal (wordFrom text (at + 1))) (at + 1 + length (wordFrom text (at + 1)))
+kept-field text at e =
+    let parts = true-both (eqb (getD (lineFrom text at) 0 0) space) (numberKeeps (wordFrom text (at + 1))) e in
+    record { gap = parts .0; form = parts .1; number = refl; behind = refl }
+
 pub field-read : (text : List ℕ) (at : ℕ) {value next : ℕ} → fieldAt text at ≡ field.Number value next → FieldRead text at value next
 unfolding fieldAt
 field-read text at {value} {next} e = go (eqb (getD (lineFrom text at) 0 0) space) (numberKeeps (wordFrom text (at + 1))) refl refl e
@@ -38,9 +44,9 @@ field-read text at {value} {next} e = go (eqb (getD (lineFrom text at) 0 0) spac
     go true false g f e = absurd (let z : _≡_ {A = ℕ} 0 1 = cc in omega arith)
     go false form g f e = absurd (let z : _≡_ {A = ℕ} 0 1 = cc in omega arith)
 
-pub field-not-read : (text : List ℕ) (at : ℕ) → fieldAt text at ≡ field.Malformed → (eqb (getD (lineFrom text at) 0 0) space && numberKeeps (wordFrom text (at + 1))) ≡ false
+pub field-not-read : (text : List ℕ) (at : ℕ) → fieldAt text at ≡ field.Malformed → fieldKeeps text at ≡ false
 unfolding fieldAt
-field-not-read text at e = go (eqb (getD (lineFrom text at) 0 0) space && numberKeeps (wordFrom text (at + 1))) e
+field-not-read text at e = go (fieldKeeps text at) e
   where
     go : (kept : Bool) → cond kept (field.Number (decimal (wordFrom text (at + 1))) (at + 1 + length (wordFrom text (at + 1)))) field.Malformed ≡ field.Malformed → kept ≡ false
     go true e = absurd (let z : _≡_ {A = ℕ} 0 1 = cc in omega arith)
@@ -139,15 +145,18 @@ module _ (text : List ℕ) (at : ℕ) where
   unfolding numbersRead
   unfilled-malformed test count e = rw e
 
-  pub numbers-malformed : (test : List ℕ → Bool) (count : ℕ) → fieldAt text at ≡ field.Malformed → Malformed ≡ numbersRead test (suc count) text at
+  pub unfilled-without-field : (count : ℕ) → fieldKeeps text at ≡ false → filledBy (suc count) text at ≡ false
   unfolding every pieces upTo
-  numbers-malformed test count e =
-      unfilled-malformed test (suc count)
-      (unfilled (suc count) (λ empty. rw (empty, eqb·zero-suc count)) (λ gap. not-a-number text at gap (suc count) (rw gap at (field-not-read text at e))))
+  unfilled-without-field count e = unfilled (suc count) (λ empty. rw (empty, eqb·zero-suc count)) (λ gap. not-a-number text at gap (suc count) (rw gap at e))
+
+  pub unfilled-before-end : eqb (length (lineFrom text at)) 0 ≡ false → filledBy 0 text at ≡ false
+  unfilled-before-end e = unfilled 0 (λ empty. absurd (let z : _≡_ {A = ℕ} 0 1 = cc (rw empty at e) in omega arith)) (λ gap. one-too-many text at gap)
+
+  pub numbers-malformed : (test : List ℕ → Bool) (count : ℕ) → fieldAt text at ≡ field.Malformed → Malformed ≡ numbersRead test (suc count) text at
+  numbers-malformed test count e = unfilled-malformed test (suc count) (unfilled-without-field count (field-not-read text at e))
 
   pub numbers-not-ended : (test : List ℕ → Bool) → eqb (length (lineFrom text at)) 0 ≡ false → Malformed ≡ numbersRead test 0 text at
-  numbers-not-ended test e =
-      unfilled-malformed test 0 (unfilled 0 (λ empty. absurd (let z : _≡_ {A = ℕ} 0 1 = cc (rw empty at e) in omega arith)) (λ gap. one-too-many text at gap))
+  numbers-not-ended test e = unfilled-malformed test 0 (unfilled-before-end e)
 
   pub numbers-ended : (within : Bool) → eqb (length (lineFrom text at)) 0 ≡ true → cond within (Within at) Outside ≡ numbersRead (λ numbers. within) 0 text at
   unfolding numbersRead every pieces upTo

@@ -1,12 +1,12 @@
 -- What stands at a place of the text, up to the end of its line.
-use Prim.Native.Nat.{ℕ, _+_, _-_}
-use mathlib.Core.Bool.{Bool, cond, not, _&&_, _||_}
+use Prim.Native.Nat.{ℕ, _+_}
+use mathlib.Core.Bool.{Bool, cond, _&&_}
 use mathlib.Core.List.{List, map}
-use lib.Dec.{leb, ltb, eqb}
+use lib.Dec.{ltb, eqb}
 use lib.ListN.{length, getD, drop}
 use Rattle.model.specs.Rules.{every}
-use Rattle.townfile.specs.Bytes.{lineFeed, space, printable, upTo, pieces}
-use Rattle.townfile.specs.Numbers.{decimal, numberKeeps}
+use Rattle.townfile.specs.Bytes.{lineFeed, space, digit, printable, upTo, pieces}
+use Rattle.townfile.specs.Numbers.{decimalFrom, decimal, numberKeeps}
 use Rattle.townfile.specs.Lines.{nameKeeps}
 use Rattle.loading.specs.declared.field.Field.{Field}
 use Rattle.loading.specs.declared.field.Field.the-variants.{Number, Malformed}
@@ -22,16 +22,23 @@ abbrev pub wordFrom : List ℕ → ℕ → List ℕ
 wordFrom text at = upTo space (lineFrom text at)
 
 -- A field at a place: one space and a number.
-unfoldable pub fieldAt : List ℕ → ℕ → Field
-fieldAt text at =
-    cond (eqb (getD (lineFrom text at) 0 0) space && numberKeeps (wordFrom text (at + 1)))
-    (Number (decimal (wordFrom text (at + 1))) (at + 1 + length (wordFrom text (at + 1))))
-    Malformed
+abbrev pub fieldKeeps : List ℕ → ℕ → Bool
+fieldKeeps text at = eqb (getD (lineFrom text at) 0 0) space && numberKeeps (wordFrom text (at + 1))
 
--- The digits from a place to another, whose value is known, have the form of a number.
-unfoldable pub numberFrom : List ℕ → ℕ → ℕ → ℕ → Field
-numberFrom text first end value =
-    cond (ltb 0 (end - first) && leb (end - first) 7 && (not (eqb (getD text first 0) 48) || eqb (end - first) 1)) (Number value end) Malformed
+unfoldable pub fieldAt : List ℕ → ℕ → Field
+fieldAt text at = cond (fieldKeeps text at) (Number (decimal (wordFrom text (at + 1))) (at + 1 + length (wordFrom text (at + 1)))) Malformed
+
+-- A number that begins with 0, from the place behind that on.
+unfoldable pub justZero : List ℕ → ℕ → Field
+justZero text end = cond (eqb (length (wordFrom text end)) 0) (Number 0 end) Malformed
+
+-- A number whose digits before a place come to a value, from that place on. If its first digit is not 0, it has at most 7 digits
+-- exactly where it is below 10,000,000.
+unfoldable pub numberFrom : List ℕ → ℕ → ℕ → Field
+numberFrom text at value =
+    cond (every digit (wordFrom text at) && ltb (decimalFrom value (wordFrom text at)) 10000000)
+    (Number (decimalFrom value (wordFrom text at)) (at + length (wordFrom text at)))
+    Malformed
 
 -- The rest of the line, where a test holds of it.
 abbrev pub restIf : (List ℕ → Bool) → List ℕ → ℕ → Rest

@@ -6,24 +6,29 @@ use mathlib.Core.List.{List}
 use lib.ListN.{length, getD, drop}
 use Rattle.model.specs.Rules.{every, speedKeeps}
 use Rattle.townfile.specs.Bytes.{lineFeed, pieces}
+use Rattle.townfile.specs.Numbers.{decimal}
 use Rattle.townfile.specs.Lines.{markFN, markAR, markAlone, numbersOf, numbersKeep}
 use Rattle.townfile.specs.Grammar.{Each, networkOf}
 use Rattle.townfile.specs.Tables.{marked, townOf}
-use Rattle.loading.specs.Fields.{fieldAt, numbersFrom, filledBy}
-use Rattle.loading.specs.declared.field.Field.{Field}
-use Rattle.loading.specs.declared.field.Field.the-variants.{Number, Malformed}
+use Rattle.loading.specs.Fields.{lineFrom, wordFrom, numbersFrom, filledBy}
 use Rattle.loading.specs.declared.fill.Taken.{Taken}
 
-abbrev pub takenOf : Field → ℕ → Taken
-takenOf (Number value next) at = record { value = value; next = next }
-takenOf Malformed at = record { value = 0; next = at }
+-- The line from a place on ends before the text does: a line feed follows.
+abbrev pub EndsInside : List ℕ → ℕ → Type 0
+EndsInside text at = at + length (lineFrom text at) < length text
 
+-- The number of the field at a place, and where it ends.
 abbrev pub takenAt : List ℕ → ℕ → Taken
-takenAt text at = takenOf (fieldAt text at) at
+takenAt text at = record { value = decimal (wordFrom text (at + 1)); next = at + 1 + length (wordFrom text (at + 1)) }
+
+-- So many numbers fill the rest of a line, and its line feed follows.
+pub record NumbersFill (count : ℕ) (text : List ℕ) (at : ℕ) : Type 0 where
+  pub filled : filledBy count text at ≡ true
+  pub ends : EndsInside text at
 
 -- An arc's fields, behind the mark: of the form, and of a size that the tables hold.
 pub record ArcFills (intervals : ℕ) (text : List ℕ) (at : ℕ) : Type 0 where
-  pub filled : filledBy (3 + intervals) text at ≡ true
+  pub numbers-fill : NumbersFill (3 + intervals) text at
   pub tail-fits : getD (numbersFrom text at) 0 0 < 65536
   pub head-fits : getD (numbersFrom text at) 1 0 < 65536
   pub speeds-fit : every speedKeeps (drop 3 (numbersFrom text at)) ≡ true
@@ -43,6 +48,7 @@ pub record ArcLine (intervals : ℕ) (line : List ℕ) : Type 0 where
 
 -- A text whose lines fill tables, with tables long enough.
 pub record Fillable (intervals : ℕ) (text fences tails heads lengths speeds : List ℕ) : Type 0 where
+  pub lines-end : (at : ℕ) → at < length text → EndsInside text at
   pub fences-fill : Each (FencesLine intervals) (marked markFN (pieces lineFeed text))
   pub arcs-fill : Each (ArcLine intervals) (marked markAR (pieces lineFeed text))
   pub fences-long : length (networkOf (townOf text) .fences) ≤ length fences

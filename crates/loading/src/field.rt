@@ -1,12 +1,12 @@
 // What stands at a place of a line: a field, the end, bytes that can be printed. Nothing here reads past a line feed.
 ghost use mathlib.Core.Path.{_≡_};
-ghost use Prim.Native.Nat.{_+_, _*_, _≤_, min};
+ghost use Prim.Native.Nat.{_+_, _*_};
 ghost use lib.Dec.{eqb};
 ghost use lib.ListN.{length};
 ghost use Rattle.townfile.specs.Lines.{markOf};
-ghost use Rattle.loading.specs.Fields.{lineFrom, fieldAt, numberFrom, printableRest, nameRest};
-use townfile::limit::MAX_DIGITS;
+ghost use Rattle.loading.specs.Fields.{lineFrom, justZero, numberFrom, fieldAt, printableRest, nameRest};
 use townfile::limit::MAX_NAME;
+use townfile::limit::MAX_OF_SIX_DIGITS;
 use townfile::mark::LINE_FEED;
 use townfile::mark::NONE;
 use townfile::mark::SPACE;
@@ -71,37 +71,51 @@ pub fn mark_at(text: &[u8], at: usize) -> u16
     mark_of(text[at], text[second])
 }
 
-// The digits from one place to another as a number of the right form.
-fn number_from(text: &[u8], first: usize, end: usize, value: u32) -> Field
-    requires { ⌜ end ≤ length (now text) ⌝ }
-    ensures { λ r. ⌜ r ≡ numberFrom (now (text .entry)) first end value ⌝ }
+// A number that begins with 0 is just 0: a space follows, the line's end or the text's.
+fn just_zero(text: &[u8], end: usize) -> Field
+    ensures { λ r. ⌜ r ≡ justZero (now (text .entry)) end ⌝ }
 {
-    if end <= first {
-        return Field::Malformed;
+    if text.len() <= end {
+        return Field::Number {
+            value: 0,
+            next: end,
+        };
     }
-    let digits = end - first;
-    if MAX_DIGITS < digits {
-        return Field::Malformed;
+    let byte = text[end];
+    match byte {
+        b' ' | b'\n' => Field::Number {
+            value: 0,
+            next: end,
+        },
+        _ => Field::Malformed,
     }
-    if digits == 1 {
-        return Field::Number { value, next: end };
-    }
-    if text[first] == b'0' {
-        return Field::Malformed;
-    }
-    Field::Number { value, next: end }
 }
 
-// One digit more than a number may have, or the text's end.
-fn digits_limit(text: &[u8], first: usize) -> usize
-    requires { ⌜ first ≤ length (now text) ⌝ }
-    ensures { λ r. ⌜ r ≡ min (first + 8) (length (now (text .entry))) ⌝ }
+// What follows a first digit that is not 0. The value tells how many digits there are, so they are not counted.
+fn further_digits(text: &[u8], second: usize, digit: u8) -> Field
+    ensures { λ r. ⌜ r ≡ numberFrom (now (text .entry)) second digit ⌝ }
 {
-    if text.len() - first <= MAX_DIGITS {
-        text.len()
-    } else {
-        first + MAX_DIGITS + 1
+    let mut value = digit as u32;
+    let mut i = second;
+    while i < text.len() {
+        let byte = text[i];
+        match byte {
+            b'0'..=b'9' => {
+                if MAX_OF_SIX_DIGITS < value {
+                    return Field::Malformed;
+                }
+                value = value * 10 + ((byte - b'0') as u32);
+            }
+            b' ' | b'\n' => {
+                return Field::Number { value, next: i };
+            }
+            _ => {
+                return Field::Malformed;
+            }
+        }
+        i += 1;
     }
+    Field::Number { value, next: i }
 }
 
 // A space and a number up to the next space or the line's end.
@@ -115,25 +129,15 @@ pub fn read_field(text: &[u8], at: usize) -> Field
         return Field::Malformed;
     }
     let first = at + 1;
-    let limit = digits_limit(text, first);
-    let mut value = 0u32;
-    let mut i = first;
-    while i < limit {
-        let byte = text[i];
-        match byte {
-            b'0'..=b'9' => {
-                value = value * 10 + ((byte - b'0') as u32);
-            }
-            b' ' | b'\n' => {
-                return number_from(text, first, i, value);
-            }
-            _ => {
-                return Field::Malformed;
-            }
-        }
-        i += 1;
+    if text.len() <= first {
+        return Field::Malformed;
     }
-    number_from(text, first, i, value)
+    let byte = text[first];
+    match byte {
+        b'0' => just_zero(text, first + 1),
+        b'1'..=b'9' => further_digits(text, first + 1, byte - b'0'),
+        _ => Field::Malformed,
+    }
 }
 
 // The line's rest, if all of it can be printed.

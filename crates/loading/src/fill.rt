@@ -7,12 +7,10 @@ ghost use lib.Seq.{sets};
 ghost use Rattle.model.specs.Rules.{every, speedKeeps, written};
 ghost use Rattle.townfile.specs.Grammar.{networkOf};
 ghost use Rattle.townfile.specs.Tables.{townOf};
-ghost use Rattle.loading.specs.Fields.{lineFrom, numbersFrom, filledBy};
-ghost use Rattle.loading.specs.Filling.{takenAt, ArcFills, Fillable};
-use crate::field::Field;
+ghost use Rattle.loading.specs.Fields.{lineFrom, fieldKeeps, numbersFrom};
+ghost use Rattle.loading.specs.Filling.{EndsInside, takenAt, NumbersFill, ArcFills, Fillable};
 use crate::field::line_end;
 use crate::field::mark_at;
-use crate::field::read_field;
 use townfile::mark::ARC;
 use townfile::mark::FENCES;
 
@@ -22,19 +20,33 @@ struct Taken {
     next: usize,
 }
 
-// The number of the field at a place; the scan has shown that there is one.
+// The number of the field at a place. The scan has shown that it has the form and that its line ends in a line feed, so nothing is
+// tested again: the first byte that is no digit ends it.
 fn take_number(text: &[u8], at: usize) -> Taken
+    requires { ⌜ fieldKeeps (now text) at ≡ true ⌝ }
+    requires { ⌜ EndsInside (now text) at ⌝ }
     ensures { λ r. ⌜ r ≡ takenAt (now (text .entry)) at ⌝ }
 {
-    match read_field(text, at) {
-        Field::Number { value, next } => Taken { value, next },
-        Field::Malformed => Taken { value: 0, next: at },
+    let first = text[at + 1];
+    let mut value = (first - b'0') as u32;
+    let mut i = at + 2;
+    loop {
+        let byte = text[i];
+        match byte {
+            b'0'..=b'9' => {
+                value = value * 10 + ((byte - b'0') as u32);
+            }
+            _ => {
+                return Taken { value, next: i };
+            }
+        }
+        i += 1;
     }
 }
 
 // Each of the next two writes the numbers that fill the rest of a line, and answers where the line ends.
 fn fill_fences(text: &[u8], at: usize, start: usize, count: usize, fences: &mut [u32]) -> usize
-    requires { ⌜ filledBy count (now text) at ≡ true ⌝ }
+    requires { ⌜ NumbersFill count (now text) at ⌝ }
     requires { ⌜ start + count ≤ length (now fences) ⌝ }
     ensures end { λ r. ⌜ r ≡ at + length (lineFrom (now (text .entry)) at) ⌝ }
     ensures fences { λ _. ⌜ now (fences .exit) ≡ sets (now (fences .entry)) start (numbersFrom (now (text .entry)) at) ⌝ }
@@ -51,7 +63,7 @@ fn fill_fences(text: &[u8], at: usize, start: usize, count: usize, fences: &mut 
 }
 
 fn fill_speeds(text: &[u8], at: usize, start: usize, count: usize, speeds: &mut [u8]) -> usize
-    requires { ⌜ filledBy count (now text) at ≡ true ⌝ }
+    requires { ⌜ NumbersFill count (now text) at ⌝ }
     requires { ⌜ every speedKeeps (numbersFrom (now text) at) ≡ true ⌝ }
     requires { ⌜ start + count ≤ length (now speeds) ⌝ }
     ensures end { λ r. ⌜ r ≡ at + length (lineFrom (now (text .entry)) at) ⌝ }

@@ -6,5 +6,5 @@ pub const MAX_LINE: usize = 700;
 
 pub const MAX_NAME: usize = 24;
 
-// The digits of a number.
-pub const MAX_DIGITS: usize = 7;
+// A number has at most 7 digits, so behind a value up to this a digit may follow.
+pub const MAX_OF_SIX_DIGITS: u32 = 999_999;

@@ -10,6 +10,7 @@ use denote.Ref.{now}
 use Rattle.townfile.specs.Lines.{markFN, markAR, markOf, known}
 use Rattle.townfile.specs.Load.{tables}
 use Rattle.loading.specs.Fields.{lineFrom}
+use Rattle.loading.specs.Filling.{EndsInside}
 use Rattle.loading.proofs.LineFrom.{line-inside}
 use Rattle.loading.proofs.BehindMark.{BehindMark, behind-mark}
 use Rattle.loading.proofs.Filling.{FilledFrom, fillable-starts, fences-asked, fences-next, arc-asked, arc-next, other-next, filled-whole}
@@ -40,6 +41,10 @@ mark-behind c = behind-mark _ _ (c .before .before .before .before .before .befo
 next-fits : (c : tie.At-loop Inv-loop μ-loop) (at : ℕ) → at ≤ length (now (entry c .args .text)) → at + length (lineFrom (now (entry c .args .text)) at) + 1 < 18446744073709551616
 next-fits c at inside = omega (arith, line-inside (now (entry c .args .text)) at)
 
+-- the line ends before the text
+ends : (c : tie.In-loop Inv-loop μ-loop) → EndsInside (now (entry (c .before) .args .text)) (c .before .loop .at)
+ends c = entry (c .before) .pre .lines-end (c .before .loop .at) (c .loop-test .taken)
+
 -- the mark is the line's
 marks : (c : tie.After-mark-at Inv-loop μ-loop) {mark : ℕ} → c .mark-at .result ≡ mark → markOf (line (c .before .before)) ≡ mark
 marks c e = sym (c .mark-at .ensures) ∙ e
@@ -57,7 +62,7 @@ add-fill-fences : tie.Need-add-fill-fences Inv-loop μ-loop
 add-fill-fences c = record { fits = omega (arith, behind-fences c .inside) }
 
 fill-fences-requires : tie.Need-fill-fences-requires Inv-loop μ-loop
-fill-fences-requires c κs = fences-asked _ _ (c .before .before .before .before .loop .inv) (behind-fences (c .before)) (is-fences (c .before))
+fill-fences-requires c κs = fences-asked _ _ (c .before .before .before .before .loop .inv) (behind-fences (c .before)) (is-fences (c .before)) (ends (c .before .before .before))
 
 add-at : tie.Need-add-at Inv-loop μ-loop
 add-at c =
@@ -65,7 +70,9 @@ add-at c =
     record { fits = omega (arith, c .before .before .fill-fences .ensures .0, next-fits (turn .before .before .before) _ (behind-fences turn .inside)) }
 
 add-fence : tie.Need-add-fence Inv-loop μ-loop
-add-fence c = let turn = c .before .before .before .before in record { fits = omega (arith, fences-asked _ _ (turn .before .before .before .loop .inv) (behind-fences turn) (is-fences turn) .1) }
+add-fence c =
+    let turn = c .before .before .before .before in
+    record { fits = omega (arith, fences-asked _ _ (turn .before .before .before .loop .inv) (behind-fences turn) (is-fences turn) (ends (turn .before .before)) .1) }
 
 loop-less : tie.Need-loop-less Inv-loop μ-loop
 loop-less c = omega (arith, c .before .before .before .before .before .before .loop-test .taken, c .before .before .fill-fences .ensures .0)
@@ -91,7 +98,7 @@ add-fill-arc c = record { fits = omega (arith, behind-arc c .inside) }
 fill-arc-requires : tie.Need-fill-arc-requires Inv-loop μ-loop
 fill-arc-requires c κs =
     let turn = c .before .before .before .before in
-    arc-asked _ _ (turn .before .before .before .loop .inv) (behind-arc turn) (is-arc turn)
+    arc-asked _ _ (turn .before .before .before .loop .inv) (behind-arc turn) (is-arc turn) (ends (turn .before .before))
 
 add-at-2 : tie.Need-add-at-2 Inv-loop μ-loop
 add-at-2 c =
@@ -102,7 +109,7 @@ add-at-2 c =
 add-arc : tie.Need-add-arc Inv-loop μ-loop
 add-arc c =
     let turn = c .before .before .before .before .before .before .before .before .before .before .before .before .before in
-    record { fits = omega (arith, arc-asked _ _ (turn .before .before .before .loop .inv) (behind-arc turn) (is-arc turn) .1 .0) }
+    record { fits = omega (arith, arc-asked _ _ (turn .before .before .before .loop .inv) (behind-arc turn) (is-arc turn) (ends (turn .before .before)) .1 .0) }
 
 loop-less-2 : tie.Need-loop-less-2 Inv-loop μ-loop
 loop-less-2 c =

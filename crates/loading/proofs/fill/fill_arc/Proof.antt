@@ -1,36 +1,56 @@
 -- `fill::fill_arc`: the first three numbers of the line are taken one by one, and the others are the speeds.
 use borrow.Author.Needs.{needs}
+use Prim.Native.Nat.{suc}
 use mathlib.Core.Path.{ap, _∙_}
 use native.Mathlib.Omega.{arith}
 use lib.ListN.{set}
 use lib.Seq.{sets}
 use denote.Ref.{now}
-use Rattle.loading.proofs.Taking.{ArcTaken, arc-taken}
+use Rattle.loading.proofs.Taking.{number-asked, Taking, taking, ArcTaken, arc-starts, arc-taken}
 use Rattle.loading.proofs.fill.fill_arc.Statement.{statement}
 use Rattle.loading.proofs.fill.fill_arc.Tie as tie
 
--- the function's start, from the place behind the third number
-abbrev start : tie.After-take-number3 → tie.Start
-start c = c .before .before .before .before .before .before .before .before
+-- the function's start, from the place behind the first number
+abbrev start : tie.After-take-number → tie.Start
+start c = c .before .before .before .before .before .before
 
-taken : (c : tie.After-take-number3) →
-    ArcTaken (start c .args .intervals) (now (start c .args .text)) (start c .args .at) (c .before .before .take-number .result) (c .before .take-number2 .result) (c .take-number3 .result)
-taken c = arc-taken _ _ _ (start c .pre .0) _ _ _ (c .before .before .take-number .ensures) (c .before .take-number2 .ensures) (c .take-number3 .ensures)
+first : (c : tie.After-take-number) → Taking (now (start c .args .text)) (start c .args .at) (suc (suc (start c .args .intervals))) (c .take-number .result)
+first c = taking _ _ _ _ (c .take-number .ensures) (arc-starts (start c .pre .0))
+
+second : (c : tie.After-take-number2) →
+    Taking (now (start (c .before) .args .text)) (c .before .take-number .result .next) (suc (start (c .before) .args .intervals)) (c .take-number2 .result)
+second c = taking _ _ _ _ (c .take-number2 .ensures) (first (c .before) .still-fill)
+
+taken : (c : tie.After-take-number3) → let entry = start (c .before .before) .args in
+    ArcTaken (entry .intervals) (now (entry .text)) (entry .at) (c .before .before .take-number .result) (c .before .take-number2 .result) (c .take-number3 .result)
+taken c = arc-taken _ _ _ _ _ _ (first (c .before .before)) (second (c .before)) (taking _ _ _ _ (c .take-number3 .ensures) (second (c .before) .still-fill))
+
+take-number-requires : tie.Need-take-number-requires
+take-number-requires c κs = number-asked _ _ _ (arc-starts (c .before .before .before .before .before .pre .0))
+
+take-number-requires-2 : tie.Need-take-number-requires-2
+take-number-requires-2 c κs = number-asked _ _ _ (first c .still-fill)
+
+take-number-requires-3 : tie.Need-take-number-requires-3
+take-number-requires-3 c κs = number-asked _ _ _ (second c .still-fill)
 
 cast-tails : tie.Need-cast-tails
-cast-tails c = record { fits = omega (arith, taken (c .before) .tail-is, start (c .before) .pre .0 .tail-fits) }
+cast-tails c = record { fits = omega (arith, taken (c .before) .tail-is, start (c .before .before .before) .pre .0 .tail-fits) }
 
 cast-heads : tie.Need-cast-heads
-cast-heads c = record { fits = omega (arith, taken (c .before .before) .head-is, start (c .before .before) .pre .0 .head-fits) }
+cast-heads c = record { fits = omega (arith, taken (c .before .before) .head-is, start (c .before .before .before .before) .pre .0 .head-fits) }
 
 fill-speeds-requires : tie.Need-fill-speeds-requires
-fill-speeds-requires c κs = let third = c .before .before .before in (taken third .still-filled, (rw (taken third .speeds-are) (start third .pre .0 .speeds-fit), start third .pre .1 .1 .1 .1))
+fill-speeds-requires c κs =
+    let third = c .before .before .before in
+    let asked = start (third .before .before) .pre in
+    (taken third .still-fill, (rw (taken third .speeds-are) (asked .0 .speeds-fit), asked .1 .1 .1 .1))
 
 returns : tie.Need-returns
 returns c =
     let filled = c .before .before in
     let third = filled .before .before .before .before in
-    let entry = start third .args in (
+    let entry = start (third .before .before) .args in (
       filled .fill-speeds .ensures .0 ∙ taken third .same-end,
       (
         ap (set (now (entry .tails)) (entry .arc)) (taken third .tail-is),
@@ -45,9 +65,9 @@ pub fill-arc-spec : {M : Type 1} → statement M
 fill-arc-spec =
     tie.close
     (tie.spec
-    (λ c κs. search needs)
-    (λ c κs. search needs)
-    (λ c κs. search needs)
+    take-number-requires
+    take-number-requires-2
+    take-number-requires-3
     cast-tails
     (λ c. search needs)
     (λ c. search needs)

@@ -2,7 +2,7 @@
 use borrow.Author.Needs.{needs}
 use Prim.Native.Nat.{_-_}
 use native.Mathlib.Omega.{arith}
-use Rattle.loading.proofs.Taking.{Stored, none-stored, one-stored, stored-to-end, all-stored}
+use Rattle.loading.proofs.Taking.{Stored, none-stored, next-asked, one-stored, stored-to-end, all-stored}
 use Rattle.loading.proofs.fill.fill_fences.Statement.{statement}
 use Rattle.loading.proofs.fill.fill_fences.Tie as tie
 
@@ -14,6 +14,9 @@ abbrev μ-loop : tie.MeasureT-loop
 
 loop-holds : tie.Need-loop-holds Inv-loop μ-loop
 loop-holds c = none-stored _ _ _ _ _ (c .before .before .pre .0)
+
+take-number-requires : tie.Need-take-number-requires Inv-loop μ-loop
+take-number-requires c κs = next-asked (c .before .loop .inv) (c .loop-test .taken)
 
 slice-write-fences : tie.Need-slice-write-fences Inv-loop μ-loop
 slice-write-fences c = omega (arith, c .before .before .loop .inv .same-length, c .before .before .before .before .before .pre .1)
@@ -34,7 +37,7 @@ fill-fences-spec =
     Inv-loop
     μ-loop
     loop-holds
-    (λ c κs. search needs)
+    take-number-requires
     (λ c. search needs)
     (λ c. search needs)
     slice-write-fences

@@ -6,7 +6,7 @@ use mathlib.Core.Bool.{true}
 use native.Mathlib.Omega.{arith}
 use Rattle.model.specs.Rules.{every, speedKeeps}
 use Rattle.loading.specs.Fields.{numbersFrom}
-use Rattle.loading.proofs.Taking.{first-within, Stored, none-stored, next-taking, one-stored, stored-to-end, all-stored}
+use Rattle.loading.proofs.Taking.{first-within, Stored, none-stored, next-asked, next-taking, one-stored, stored-to-end, all-stored}
 use Rattle.loading.proofs.fill.fill_speeds.Statement.{statement}
 use Rattle.loading.proofs.fill.fill_speeds.Tie as tie
 
@@ -18,6 +18,9 @@ abbrev μ-loop : tie.MeasureT-loop
 
 loop-holds : tie.Need-loop-holds Inv-loop μ-loop
 loop-holds c = (none-stored _ _ _ _ _ (c .before .before .pre .0), c .before .before .pre .1 .0)
+
+take-number-requires : tie.Need-take-number-requires Inv-loop μ-loop
+take-number-requires c κs = next-asked (c .before .loop .inv .0) (c .loop-test .taken)
 
 -- the number is a speed, and so are those behind it
 speed : (c : tie.After-struct-known Inv-loop μ-loop) → let taken = c .before .take-number .result in
@@ -48,7 +51,7 @@ fill-speeds-spec =
     Inv-loop
     μ-loop
     loop-holds
-    (λ c κs. search needs)
+    take-number-requires
     cast-speeds
     (λ c. search needs)
     slice-write-speeds

@@ -1,15 +1,90 @@
--- `fill::take_number`: what `read_field` finds, taken apart.
-use borrow.Author.Needs.{needs}
-use mathlib.Core.Path.{sym, ap, _∙_}
-use Rattle.loading.specs.Filling.{takenOf}
+-- `fill::take_number`: at each turn the digits left, behind those taken, give the whole number; a byte that is no digit ends them.
+use Prim.Native.Nat.{_+_, _-_, _*_}
+use native.Mathlib.Omega.{arith}
+use lib.ListN.{length, getD}
+use denote.Ref.{now}
+use Rattle.loading.proofs.DigitsTaken.{DigitsTaken, value-below, digit-taken, digits-end, first-is-digit, first-taken}
 use Rattle.loading.proofs.fill.take_number.Statement.{statement}
 use Rattle.loading.proofs.fill.take_number.Tie as tie
 
-returns : tie.Need-returns
-returns c = ap (λ found. takenOf found (c .before .before .before .before .before .args .at)) (sym (c .before .value .given .1) ∙ c .before .before .before .read-field .ensures)
+abbrev Inv-loop : tie.InvT-loop
+Inv-loop text at first value₀ i₀ value i = DigitsTaken text at i value
 
-returns-2 : tie.Need-returns-2
-returns-2 c = ap (λ found. takenOf found (c .before .before .before .before .args .at)) (sym (c .enum-told .given .1) ∙ c .before .before .read-field .ensures)
+abbrev μ-loop : tie.MeasureT-loop
+μ-loop text at first value₀ i₀ value i = length text - i
+
+-- the first digit is taken
+begun : (c : tie.Start Inv-loop μ-loop) → DigitsTaken (now (c .args .text)) (c .args .at) (c .args .at + 2) (getD (now (c .args .text)) (c .args .at + 1) 0 - 48)
+begun c = first-taken _ _ (c .pre .0) (c .pre .1)
+
+add-first : tie.Need-add-first Inv-loop μ-loop
+add-first c = record { fits = omega (arith, begun c .same-end, begun c .inside) }
+
+shared-slice-read-first : tie.Need-shared-slice-read-first Inv-loop μ-loop
+shared-slice-read-first c = omega (arith, begun (c .before) .same-end, begun (c .before) .inside)
+
+sub-value : tie.Need-sub-value Inv-loop μ-loop
+sub-value c = first-is-digit _ _ (c .before .pre .0) (c .before .pre .1) .0
+
+cast-value : tie.Need-cast-value Inv-loop μ-loop
+cast-value c = record { fits = omega (arith, value-below (begun (c .before))) }
+
+add-i : tie.Need-add-i Inv-loop μ-loop
+add-i c = record { fits = omega (arith, begun (c .before) .same-end, begun (c .before) .inside) }
+
+loop-holds : tie.Need-loop-holds Inv-loop μ-loop
+loop-holds c = begun (c .before)
+
+shared-slice-read-byte : tie.Need-shared-slice-read-byte Inv-loop μ-loop
+shared-slice-read-byte c = omega arith
+
+-- the byte is a digit, and taken
+took : (c : tie.Then2 Inv-loop μ-loop) → let turn = c .before .before .before in let text = now (turn .before .before .args .text) in
+    DigitsTaken text (turn .before .before .args .at) (turn .loop .i + 1) (turn .loop .value * 10 + (getD text (turn .loop .i) 0 - 48))
+took c = digit-taken (c .before .before .before .loop .inv) (c .before .if1 .left) (c .if2 .taken)
+
+mul-value : tie.Need-mul-value Inv-loop μ-loop
+mul-value c = record { fits = omega (arith, value-below (took c)) }
+
+cast-value-2 : tie.Need-cast-value-2 Inv-loop μ-loop
+cast-value-2 c = record { fits = omega arith }
+
+add-value : tie.Need-add-value Inv-loop μ-loop
+add-value c = record { fits = omega (arith, value-below (took c)) }
+
+returns : tie.Need-returns Inv-loop μ-loop
+returns c = digits-end (c .before .before .loop .inv) (λ digit. omega (arith, c .if1 .taken, digit .0))
+
+returns-2 : tie.Need-returns-2 Inv-loop μ-loop
+returns-2 c = digits-end (c .before .before .before .loop .inv) (λ digit. omega (arith, c .if2 .left, digit .1))
+
+add-i-2 : tie.Need-add-i-2 Inv-loop μ-loop
+add-i-2 c = record { fits = omega arith }
+
+loop-less : tie.Need-loop-less Inv-loop μ-loop
+loop-less c = omega arith
+
+loop-again : tie.Need-loop-again Inv-loop μ-loop
+loop-again c = took c
 
 pub take-number-spec : {M : Type 1} → statement M
-take-number-spec = tie.close (tie.spec (λ c κs. search needs) (λ c. search needs) (λ c. search needs) returns returns-2)
+take-number-spec =
+    tie.close
+    (tie.spec
+    Inv-loop
+    μ-loop
+    add-first
+    shared-slice-read-first
+    sub-value
+    cast-value
+    add-i
+    loop-holds
+    shared-slice-read-byte
+    mul-value
+    cast-value-2
+    add-value
+    returns
+    returns-2
+    add-i-2
+    loop-less
+    loop-again)

@@ -1,4 +1,4 @@
-.PHONY: test prove run
+.PHONY: test prove run bench soak
 
 # Proves and builds the program arrivals, and asks it about the example towns.
 run:
@@ -12,3 +12,18 @@ test:
 # The proofs alone, of what has changed.
 prove:
 	rt check
+
+# Measures the operations beside the Rust program's: the tables of docs/BENCHMARK.md.
+bench:
+	rt staticlib exports
+	rt staticlib cabinet
+	cargo run --release --offline --quiet --manifest-path compare/Cargo.toml --bin bench
+
+# Compares with the Rust program on ever new inputs: make soak SEED=7 MINUTES=10
+SEED = 1
+MINUTES = 5
+soak:
+	rt staticlib exports
+	rt staticlib cabinet
+	rt check arrivals
+	cargo run --release --offline --quiet --manifest-path compare/Cargo.toml --bin soak -- $(SEED) $(MINUTES)

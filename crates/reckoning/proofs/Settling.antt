@@ -39,7 +39,7 @@ pub record Settling (N : Net) (source departure t : ℕ) (settled : List Bool) (
 
 -- ---- Flags and labels
 
-by-flag : (flags : List Bool) (k : ℕ) {A : Type 0} → (getD flags k false ≡ true → A) → (getD flags k false ≡ false → A) → A
+pub by-flag : (flags : List Bool) (k : ℕ) {A : Type 0} → (getD flags k false ≡ true → A) → (getD flags k false ≡ false → A) → A
 by-flag flags k {A} on off = go (getD flags k false) refl
   where
     go : (flag : Bool) → getD flags k false ≡ flag → A
@@ -111,7 +111,7 @@ module _ {N : Net} {source departure t : ℕ} {settled : List Bool} {D : ℕ →
       go (no other) (yes inside) = ⊎-elim (λ unreached. omega arith) (λ at. omega arith) (s .others k inside other)
       go (no other) (no outside) = omega (arith, List·getD-eq-default labels never {n = k} (omega arith))
 
-  reached-by-last : Sound N → (j : ℕ) → j < N .junctions → getD labels j never < never → getD labels j never ≤ last
+  pub reached-by-last : Sound N → (j : ℕ) → j < N .junctions → getD labels j never < never → getD labels j never ≤ last
   reached-by-last sound j is-junction reached = go (ℕ-discrete j source)
     where
       go : Dec (j ≡ source) → getD labels j never ≤ last

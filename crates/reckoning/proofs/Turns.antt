@@ -1,6 +1,7 @@
 -- The labelling's two loops on a network. Between the turns of the outer loop every arc of a settled junction has offered
--- (`Round`); between those of the inner loop the arcs of the settled junction before arc a have (`Turn`).
-use Prim.Native.Nat.{ℕ, zero, suc, _+_, _*_, _≤_, _<_}
+-- (`Round`); between those of the inner loop the arcs of the settled junction before arc a have (`Turn`). In both, the junctions
+-- still to settle stand in the tournament, and the fences reached at the last settled junction's tick are reached ever after.
+use Prim.Native.Nat.{ℕ, zero, suc, _+_, _-_, _*_, _≤_, _<_}
 use mathlib.Core.Path.{_≡_, refl, sym, _∙_}
 use mathlib.Core.Bool.{Bool, true, false}
 use mathlib.Core.List.{List, [], _∷_}
@@ -16,12 +17,15 @@ use Rattle.model.specs.Intervals.{passed}
 use Rattle.model.specs.Network.{Network, Accepted, arcs, intervals, driveOf, netOf, arcSpeeds, arrivalOn}
 use Rattle.model.specs.Labels.{noArc, labelsOf, predecessorsOf}
 use Rattle.model.proofs.Networks.{accepted-sound}
+use Rattle.model.proofs.Passed.{passed-monotone}
 use Rattle.model.proofs.Tests.{ltb-cases, eqb-cases}
 use Rattle.driving.specs.ArcKept.{ArcKept}
-use Rattle.reckoning.specs.Labelling.{arcFrom, Linked, Nearest, lowered, taken, Offerable, Labelable}
+use Rattle.reckoning.specs.Labelling.{arcFrom, Linked, lowered, taken, Rekeyed, Offerable, Labelable}
+use Rattle.reckoning.specs.Tournament.{Least, Entered, keyOf}
 use Rattle.driving.proofs.Flags.{true-not-false}
 use Rattle.reckoning.proofs.Linking.{arc-from, arc-from-least}
-use Rattle.reckoning.proofs.Settling.{Settling, settling-starts, settling-weakens, settle, settled-label-stays, offer-keeps, offer-skips, offer-lowers, offer-ties, settling-ends}
+use Rattle.reckoning.proofs.Queue.{Queued, Nearest, none-waits, queued-starts, queued-settles, queued-lowers, queued-offered}
+use Rattle.reckoning.proofs.Settling.{Settling, settling-starts, labels-at-most-never, reached-by-last, settling-weakens, settle, settled-label-stays, offer-keeps, offer-skips, offer-lowers, offer-ties, settling-ends}
 
 -- ---- Entries within a table
 
@@ -74,25 +78,35 @@ waiting-falls (false ∷ flags) (suc j) h e = omega (arith, waiting-falls flags 
 abbrev Done : Network → List Bool → ℕ → Type 0
 Done N settled b = getD settled (getD (N .tails) b 0) false ≡ true
 
-pub record Round (N : Network) (source departure : ℕ) (settled : List Bool) (labels predecessors : List ℕ) : Type 0 where
+pub record Round (N : Network) (source departure : ℕ) (settled : List Bool) (reached : ℕ) (labels predecessors tree : List ℕ) : Type 0 where
   pub tick : ℕ
   pub settling : Settling (netOf N) source departure tick settled (Done N settled) labels predecessors
   pub settled-long : length settled ≡ 200
+  pub queued : Queued tree labels settled
+  pub fences-reached : reached ≤ passed (N .fences) tick
 
 module _ {N : Network} {source departure : ℕ} {labels₀ predecessors₀ : List ℕ} (q : Labelable N source departure labels₀ predecessors₀) where
-  pub round-starts : {labels predecessors : List ℕ} → labels ≡ set (replicate (N .junctions) never) source departure → predecessors ≡ replicate (N .junctions) noArc →
-      Round N source departure (replicate 200 false) labels predecessors
-  round-starts l p = record {
+  pub round-starts : {labels predecessors tree : List ℕ} {key : ℕ} → labels ≡ set (replicate (N .junctions) never) source departure →
+      predecessors ≡ replicate (N .junctions) noArc → key ≡ keyOf departure source → Entered (replicate 512 never) source key tree →
+      Round N source departure (replicate 200 false) 0 labels predecessors tree
+  round-starts l p is-key e = record {
     tick = departure;
     settling = settling-starts (q .source-below) (omega (arith, q .departure-below)) l p (getD-all 200 false) (λ b h d. d);
     settled-long = length-replicate 200 false;
+    queued = rw l
+        (queued-lowers (queued-starts (replicate (N .junctions) never) (replicate 200 false) (getD-all (N .junctions) never) (getD-all 200 false))
+        (rw length-replicate (q .source-below)) (getD-all 200 false source) (omega (arith, q .departure-below)) (rw is-key at e));
+    fences-reached = omega arith;
   }
 
-  pub round-ends : {settled : List Bool} {labels predecessors : List ℕ} → Round N source departure settled labels predecessors → Nearest labels settled (length labels) →
+  pub round-ends : {settled : List Bool} {reached key : ℕ} {labels predecessors tree : List ℕ} →
+      Round N source departure settled reached labels predecessors tree → Least tree key → never ≤ key →
       (labels ≡ labelsOf (netOf N) source departure) × (predecessors ≡ predecessorsOf (netOf N) source departure)
-  round-ends {settled} {labels} {predecessors} r nearest =
+  round-ends {labels} r least none =
+      let long : length labels ≡ N .junctions = r .settling .labels-long in
       settling-ends (r .settling) (accepted-sound N (q .accepted))
-      (λ k h e. rw (getD-inside labels k never 0 (omega (arith, r .settling .labels-long))) (nearest .none-left refl k (omega (arith, r .settling .labels-long)) e))
+      (λ k h. none-waits (r .queued) (omega (arith, q .accepted .junctions-fit)) least none
+      (λ k h. reached-by-last (r .settling) (accepted-sound N (q .accepted)) k (omega arith)) k (omega arith))
       (λ b h e. e)
       (q .source-below)
 
@@ -102,7 +116,7 @@ module _ {N : Network} {source departure : ℕ} {labels₀ predecessors₀ : Lis
 abbrev Driven : Network → List Bool → ℕ → ℕ → ℕ → Type 0
 Driven N settled junction a b = (b < arcs N) × (getD settled (getD (N .tails) b 0) false ≡ true) × (getD (N .tails) b 0 ≡ junction → b < a)
 
-pub record Turn (N : Network) (source departure : ℕ) (settled : List Bool) (junction tick interval a : ℕ) (labels predecessors : List ℕ) : Type 0 where
+pub record Turn (N : Network) (source departure : ℕ) (settled : List Bool) (junction tick interval a : ℕ) (labels predecessors tree : List ℕ) : Type 0 where
   pub settling : Settling (netOf N) source departure tick settled (Driven N settled junction a) labels predecessors
   pub settled-long : length settled ≡ 200
   pub is-junction : junction < N .junctions
@@ -110,6 +124,7 @@ pub record Turn (N : Network) (source departure : ℕ) (settled : List Bool) (ju
   pub tick-is : getD labels junction never ≡ tick
   pub interval-is : suc interval ≡ passed (N .fences) tick
   pub arc-is : (a ≡ noArc → ⊥) → (a < arcs N) × (getD (N .tails) a 0 ≡ junction)
+  pub queued : Queued tree labels settled
 
 -- The first arc of a tail from an arc on is none or an arc with that tail.
 arc-known : (N : Network) (junction p : ℕ) → p ≤ arcs N → {a : ℕ} → a ≡ arcFrom (N .tails) junction p → (a ≡ noArc → ⊥) → (a < arcs N) × (getD (N .tails) a 0 ≡ junction)
@@ -186,20 +201,30 @@ module _ {N : Network} (accepted : Accepted N) {source departure tick : ℕ} {se
 -- ---- The inner loop's turns
 
 module _ {N : Network} {source departure : ℕ} {labels₀ predecessors₀ : List ℕ} (q : Labelable N source departure labels₀ predecessors₀) where
-  pub turn-starts : {settled : List Bool} {labels predecessors first next : List ℕ} {junction interval : ℕ} → Round N source departure settled labels predecessors →
-      Nearest labels settled junction → junction < length labels → Linked (N .tails) first next → suc interval ≡ passed (N .fences) (getD labels junction 0) →
-      Turn N source departure (set settled junction true) junction (getD labels junction 0) interval (getD first junction 0) labels predecessors
-  turn-starts {settled} {labels} {predecessors} {first} {next} {junction} r nearest found linked in-interval =
-      let is-junction : junction < N .junctions = omega (arith, r .settling .labels-long) in
+  -- The fences reached at the last settled junction's tick are reached at that of the next, which is no earlier.
+  pub still-reached : {settled : List Bool} {reached junction : ℕ} {labels predecessors tree : List ℕ} →
+      Round N source departure settled reached labels predecessors tree → Nearest labels settled junction →
+      reached ≤ passed (N .fences) (getD labels junction 0)
+  still-reached {junction} {labels} r nearest =
+      let is-junction : junction < N .junctions = omega (arith, r .settling .labels-long, nearest .inside) in
+      let no-earlier = r .settling .ahead junction is-junction (nearest .unsettled) in
+      rw (← getD-inside labels junction never 0 (nearest .inside))
+      (omega (arith, r .fences-reached, passed-monotone (N .fences) (r .tick) (getD labels junction never) no-earlier))
+
+  pub turn-starts : {settled : List Bool} {labels predecessors tree tree′ first next : List ℕ} {junction reached interval : ℕ} →
+      Round N source departure settled reached labels predecessors tree → Nearest labels settled junction → Entered tree junction never tree′ →
+      Linked (N .tails) first next → suc interval ≡ passed (N .fences) (getD labels junction 0) →
+      Turn N source departure (set settled junction true) junction (getD labels junction 0) interval (getD first junction 0) labels predecessors tree′
+  turn-starts {settled} {labels} {first} {junction} r nearest out linked in-interval =
+      let is-junction : junction < N .junctions = omega (arith, r .settling .labels-long, nearest .inside) in
       let has-flag : junction < length settled = omega (arith, r .settled-long, q .accepted .junctions-fit) in
-      let same : getD labels junction never ≡ getD labels junction 0 = getD-inside labels junction never 0 found in
+      let same : getD labels junction never ≡ getD labels junction 0 = getD-inside labels junction never 0 (nearest .inside) in
       let first-is : getD first junction 0 ≡ arcFrom (N .tails) junction 0 = linked .first-is junction (omega (arith, q .accepted .junctions-fit)) in
       record {
         settling = rw (← same)
             (settling-weakens
-            (settle (r .settling) (accepted-sound N (q .accepted)) junction is-junction has-flag (nearest .unsettled found)
-            (rw same (nearest .reached found))
-            (λ k h e. rw (same, getD-inside labels k never 0 (omega (arith, r .settling .labels-long))) (nearest .least found k (omega (arith, r .settling .labels-long)) e)))
+            (settle (r .settling) (accepted-sound N (q .accepted)) junction is-junction has-flag (nearest .unsettled) (nearest .reached)
+            (λ k h. nearest .least k (omega (arith, r .settling .labels-long))))
             (λ b h d. before-first N settled junction first-is b d));
         settled-long = length-set settled junction true ∙ r .settled-long;
         is-junction = is-junction;
@@ -207,10 +232,11 @@ module _ {N : Network} {source departure : ℕ} {labels₀ predecessors₀ : Lis
         tick-is = same;
         interval-is = in-interval;
         arc-is = arc-known N junction 0 (omega arith) first-is;
+        queued = queued-settles (r .queued) has-flag out;
       }
 
-  module _ {settled : List Bool} {labels predecessors first next : List ℕ} {junction tick interval a : ℕ} (linked : Linked (N .tails) first next)
-      (t : Turn N source departure settled junction tick interval a labels predecessors) (some : a ≡ noArc → ⊥) where
+  module _ {settled : List Bool} {labels predecessors tree first next : List ℕ} {junction tick interval a : ℕ} (linked : Linked (N .tails) first next)
+      (t : Turn N source departure settled junction tick interval a labels predecessors tree) (some : a ≡ noArc → ⊥) where
     abbrev arc-at : (a < arcs N) × (getD (N .tails) a 0 ≡ junction)
     arc-at = t .arc-is some
 
@@ -223,9 +249,11 @@ module _ {N : Network} {source departure : ℕ} {labels₀ predecessors₀ : Lis
     next-is : getD next a 0 ≡ arcFrom (N .tails) junction (suc a)
     next-is = linked .next-is a (arc-at .0) ∙ rw (arc-at .1)
 
-    goes-on : {labels′ predecessors′ : List ℕ} → Settling (netOf N) source departure tick settled (Driven N settled junction (getD next a 0)) labels′ predecessors′ → getD labels′ junction never ≡ tick →
-        Turn N source departure settled junction tick interval (getD next a 0) labels′ predecessors′
-    goes-on s label = record {
+    goes-on : {labels′ predecessors′ tree′ : List ℕ} →
+        Settling (netOf N) source departure tick settled (Driven N settled junction (getD next a 0)) labels′ predecessors′ →
+        getD labels′ junction never ≡ tick → Queued tree′ labels′ settled →
+        Turn N source departure settled junction tick interval (getD next a 0) labels′ predecessors′ tree′
+    goes-on s label queued = record {
       settling = s;
       settled-long = t .settled-long;
       is-junction = t .is-junction;
@@ -233,38 +261,58 @@ module _ {N : Network} {source departure : ℕ} {labels₀ predecessors₀ : Lis
       tick-is = label;
       interval-is = t .interval-is;
       arc-is = arc-known N junction (suc a) (arc-at .0) next-is;
+      queued = queued;
     }
 
-    pub turn-offerable : Offerable a (getD (N .heads) a 0) tick interval (N .fences) (N .lengths) (N .speeds) labels predecessors
+    pub turn-offerable : Offerable a (getD (N .heads) a 0) tick interval (N .fences) (N .lengths) (N .speeds) labels predecessors tree
     turn-offerable = record {
       few-arcs = omega (arith, arc-at .0, q .accepted .arcs-fit);
       few-intervals = q .accepted .intervals-fit;
       has-length = omega (arith, arc-at .0, q .accepted .lengths-long);
       has-speeds = omega (arith, arc-inside a (intervals N) (arcs N) (arc-at .0), q .accepted .speeds-long);
+      is-junction = omega (arith, q .accepted .head-below a (arc-at .0), q .accepted .junctions-fit);
       has-label = omega (arith, q .accepted .head-below a (arc-at .0), t .settling .labels-long);
       has-predecessor = omega (arith, q .accepted .head-below a (arc-at .0), t .settling .predecessors-long);
       kept = arc-kept N (q .accepted) tick interval a (t .settling .in-time) (t .interval-is) (arc-at .0);
+      tournament = t .queued .tournament;
     }
 
-    pub turn-skips : getD settled (getD (N .heads) a 0) false ≡ true → Turn N source departure settled junction tick interval (getD next a 0) labels predecessors
-    turn-skips done = goes-on (skipped (q .accepted) (t .settling) a (arc-at .0) tail-settled tail-label (one-more N settled junction a next-is) done) (t .tick-is)
+    pub turn-skips : getD settled (getD (N .heads) a 0) false ≡ true →
+        Turn N source departure settled junction tick interval (getD next a 0) labels predecessors tree
+    turn-skips done =
+        goes-on (skipped (q .accepted) (t .settling) a (arc-at .0) tail-settled tail-label (one-more N settled junction a next-is) done)
+        (t .tick-is)
+        (t .queued)
 
-    pub turn-offers : getD settled (getD (N .heads) a 0) false ≡ false →
+    pub turn-offers : {tree′ : List ℕ} → getD settled (getD (N .heads) a 0) false ≡ false →
+        Rekeyed labels tree (getD (N .heads) a 0) (arrivalOn (N .fences) (N .lengths) (N .speeds) a tick) tree′ →
         Turn N source departure settled junction tick interval (getD next a 0)
         (lowered labels (getD (N .heads) a 0) (arrivalOn (N .fences) (N .lengths) (N .speeds) a tick))
         (taken labels predecessors (getD (N .heads) a 0) (arrivalOn (N .fences) (N .lengths) (N .speeds) a tick) a)
-    turn-offers waits =
+        tree′
+    turn-offers waits rekeyed =
         goes-on (offered (q .accepted) (t .settling) a (arc-at .0) tail-settled tail-label (one-more N settled junction a next-is) waits)
         (settled-stays (q .accepted) (t .settling) a (arc-at .0) tail-settled tail-label (one-more N settled junction a next-is) waits junction (t .junction-settled) ∙ t .tick-is)
+        (queued-offered (t .queued) inside waits
+        (rw (← getD-inside labels (getD (N .heads) a 0) never 0 inside) (labels-at-most-never (t .settling) (getD (N .heads) a 0)))
+        rekeyed)
+      where
+        inside : getD (N .heads) a 0 < length labels
+        inside = turn-offerable .has-label
 
-    -- the next arc has a higher number
-    pub next-higher : (getD next a 0 ≡ noArc) ⊎ (a < getD next a 0)
-    next-higher = ⊎-elim (λ e. inl (next-is ∙ e)) (λ f. inr (omega (arith, next-is, f .2))) (arc-from (N .tails) junction (suc a) (arc-at .0))
+    -- the next arc has a higher number, or is none
+    pub next-higher : noArc - getD next a 0 < noArc - a
+    next-higher =
+        let few : a < 640 = omega (arith, arc-at .0, q .accepted .arcs-fit) in
+        ⊎-elim (λ e. omega (arith, next-is, e)) (λ f. omega (arith, next-is, f .2)) (arc-from (N .tails) junction (suc a) (arc-at .0))
 
-  pub turn-ends : {settled : List Bool} {labels predecessors : List ℕ} {junction tick interval a : ℕ} → Turn N source departure settled junction tick interval a labels predecessors → a ≡ noArc →
-      Round N source departure settled labels predecessors
-  turn-ends {tick} t done = record {
+  pub turn-ends : {settled : List Bool} {labels predecessors tree : List ℕ} {junction tick interval a reached : ℕ} →
+      Turn N source departure settled junction tick interval a labels predecessors tree → a ≡ noArc → reached ≤ passed (N .fences) tick →
+      Round N source departure settled reached labels predecessors tree
+  turn-ends {tick} t done reached = record {
     tick = tick;
     settling = settling-weakens (t .settling) (λ b h d. (h, d, λ _. omega (arith, q .accepted .arcs-fit)));
     settled-long = t .settled-long;
+    queued = t .queued;
+    fences-reached = reached;
   }

@@ -1,7 +1,7 @@
 -- What the parts of the labelling do, for their contracts inside the crate.
 use Prim.Native.Nat.{ℕ, suc, _+_, _*_, _≤_, _<_}
 use mathlib.Core.Path.{_≡_}
-use mathlib.Core.Bool.{Bool, false, _&&_, cond}
+use mathlib.Core.Bool.{_&&_, cond}
 use mathlib.Core.List.{List, [], _∷_}
 use mathlib.Core.Option.{Option, none, some}
 use lib.Dec.{ltb, eqb}
@@ -11,6 +11,7 @@ use Rattle.model.specs.Limits.{maxJunctions, maxArcs, maxIntervals}
 use Rattle.model.specs.Labels.{noArc}
 use Rattle.model.specs.Network.{Network, Accepted, arcSpeeds}
 use Rattle.driving.specs.ArcKept.{ArcKept}
+use Rattle.reckoning.specs.Tournament.{Tournament, Entered, keyOf}
 
 -- ---- The arcs of a tail
 
@@ -27,16 +28,6 @@ arcFrom tails tail a = firstArc (drop a tails) tail a
 pub record Linked (tails first next : List ℕ) : Type 0 where
   pub first-is : (tail : ℕ) → tail < maxJunctions → getD first tail 0 ≡ arcFrom tails tail 0
   pub next-is : (a : ℕ) → a < length tails → getD next a 0 ≡ arcFrom tails (getD tails a 0) (suc a)
-
--- ---- The nearest junction
-
--- A junction that is not settled and whose label is the least of those, or the junction count where none of them is reached.
-pub record Nearest (labels : List ℕ) (settled : List Bool) (junction : ℕ) : Type 0 where
-  pub within : junction ≤ length labels
-  pub unsettled : junction < length labels → getD settled junction false ≡ false
-  pub reached : junction < length labels → getD labels junction 0 < never
-  pub least : junction < length labels → (k : ℕ) → k < length labels → getD settled k false ≡ false → getD labels junction 0 ≤ getD labels k 0
-  pub none-left : junction ≡ length labels → (k : ℕ) → k < length labels → getD settled k false ≡ false → never ≤ getD labels k 0
 
 -- ---- An arc's offer
 
@@ -55,15 +46,22 @@ taken labels predecessors head t a =
     cond (ltb t (getD labels head 0)) (set predecessors head a)
     (cond (ltb t never && eqb t (getD labels head 0) && ltb a (getD predecessors head 0)) (set predecessors head a) predecessors)
 
+-- A head whose label is lowered gets the key of its new label.
+pub record Rekeyed (labels before : List ℕ) (head t : ℕ) (after : List ℕ) : Type 0 where
+  pub entered : t < getD labels head 0 → Entered before head (keyOf t head) after
+  pub kept : getD labels head 0 ≤ t → after ≡ before
+
 -- What an offer is handed.
-pub record Offerable (a head tick interval : ℕ) (fences lengths speeds labels predecessors : List ℕ) : Type 0 where
+pub record Offerable (a head tick interval : ℕ) (fences lengths speeds labels predecessors tree : List ℕ) : Type 0 where
   pub few-arcs : a < maxArcs
   pub few-intervals : length fences ≤ maxIntervals
   pub has-length : a < length lengths
   pub has-speeds : a * length fences + length fences ≤ length speeds
+  pub is-junction : head < maxJunctions
   pub has-label : head < length labels
   pub has-predecessor : head < length predecessors
   pub kept : ArcKept tick interval (getD lengths a 0) fences (arcSpeeds fences speeds a)
+  pub tournament : Tournament tree
 
 -- ---- The whole
 

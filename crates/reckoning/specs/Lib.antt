@@ -2,3 +2,4 @@ pub mod Following
 pub mod Labelling
 pub mod Labels
 pub mod Route
+pub mod Tournament

@@ -3,12 +3,17 @@ ghost use mathlib.Core.Path.{_≡_};
 ghost use Prim.Native.Nat.{ℕ, _≤_, _<_};
 ghost use lib.ListN.{length, getD, replicate};
 ghost use Rattle.model.specs.Ticks.{never, arrivedAt};
+ghost use Rattle.model.specs.Intervals.{passed};
 ghost use Rattle.model.specs.Labels.{noArc, labelsOf, predecessorsOf};
 ghost use Rattle.model.specs.Limits.{maxArcs, maxJunctions};
 ghost use Rattle.model.specs.Network.{network, netOf, arrivalOn};
-ghost use Rattle.reckoning.specs.Labelling.{Linked, Nearest, Offerable, Labelable, labelOf, lowered, taken};
+ghost use Rattle.reckoning.specs.Labelling.{Linked, Offerable, Labelable, Rekeyed, labelOf, lowered, taken};
+use crate::tournament::NODES;
+use crate::tournament::enter;
+use crate::tournament::junction_of;
+use crate::tournament::key_of;
+use crate::tournament::least_key;
 use driving::drive::drive;
-use driving::drive::fences_passed;
 use model::label::NO_ARC;
 use model::label::UNREACHED;
 use model::limit::MAX_ARCS;
@@ -46,27 +51,6 @@ fn link_arcs(tails: &[u16], first: &mut [u16; MAX_JUNCTIONS], next: &mut [u16; M
     }
 }
 
-// The junction with the least label of those that are reached and not settled, or the junction count where there is none.
-fn nearest(labels: &[u32], settled: &[bool; MAX_JUNCTIONS]) -> usize
-    requires { ⌜ length (now labels) ≤ maxJunctions ⌝ }
-    ensures { λ r. ⌜ Nearest (now (labels .entry)) (now (settled .entry)) r ⌝ }
-{
-    let mut best = labels.len();
-    let mut least = UNREACHED;
-    let mut j = 0;
-    while j < labels.len() {
-        if !settled[j] {
-            let label = labels[j];
-            if label < least {
-                best = j;
-                least = label;
-            }
-        }
-        j += 1;
-    }
-    best
-}
-
 // The arrival as a label.
 fn label_of(arrival: Arrival) -> u32
     ensures { λ r. ⌜ r ≡ labelOf (arrivedAt arrival) ⌝ }
@@ -78,7 +62,7 @@ fn label_of(arrival: Arrival) -> u32
 }
 
 // Drives an arc from its tail's label: an earlier arrival lowers its head's label, and of the arcs that arrive at the label
-// the lowest-numbered is the predecessor.
+// the lowest-numbered is the predecessor. A head whose label is lowered gets that label's key.
 fn offer(
     a: u16,
     head: usize,
@@ -89,10 +73,12 @@ fn offer(
     speeds: &[u8],
     labels: &mut [u32],
     predecessors: &mut [u16],
+    tree: &mut [u32; NODES],
 )
-    requires { ⌜ Offerable a head tick interval (now fences) (now lengths) (now speeds) (now labels) (now predecessors) ⌝ }
+    requires { ⌜ Offerable a head tick interval (now fences) (now lengths) (now speeds) (now labels) (now predecessors) (now tree) ⌝ }
     ensures labels { λ _. ⌜ now (labels .exit) ≡ lowered (now (labels .entry)) head (arrivalOn (now (fences .entry)) (now (lengths .entry)) (now (speeds .entry)) a tick) ⌝ }
     ensures predecessors { λ _. ⌜ now (predecessors .exit) ≡ taken (now (labels .entry)) (now (predecessors .entry)) head (arrivalOn (now (fences .entry)) (now (lengths .entry)) (now (speeds .entry)) a tick) a ⌝ }
+    ensures tree { λ _. ⌜ Rekeyed (now (labels .entry)) (now (tree .entry)) head (arrivalOn (now (fences .entry)) (now (lengths .entry)) (now (speeds .entry)) a tick) (now (tree .exit)) ⌝ }
 {
     let arc = a as usize;
     let from = arc * fences.len();
@@ -102,6 +88,7 @@ fn offer(
     if arrival < label {
         labels[head] = arrival;
         predecessors[head] = a;
+        enter(tree, head, key_of(arrival, head));
         return;
     }
     if arrival == UNREACHED {
@@ -112,6 +99,21 @@ fn offer(
             predecessors[head] = a;
         }
     }
+}
+
+// How many of the fences the tick has reached, counted on from some that it has.
+fn fences_passed_from(fences: &[u32], reached: usize, tick: u32) -> usize
+    requires { ⌜ reached ≤ passed (now fences) tick ⌝ }
+    ensures { λ r. ⌜ r ≡ passed (now (fences .entry)) tick ⌝ }
+{
+    let mut k = reached;
+    while k < fences.len() {
+        if tick < fences[k] {
+            return k;
+        }
+        k += 1;
+    }
+    k
 }
 
 // Writes the labels and the predecessors of a network that is accepted.
@@ -137,14 +139,21 @@ pub(crate) fn label_all(
     let mut next = [NO_ARC; MAX_ARCS];
     link_arcs(tails, &mut first, &mut next);
     let mut settled = [false; MAX_JUNCTIONS];
+    let mut tree = [UNREACHED; NODES];
+    enter(&mut tree, source, key_of(departure, source));
+    let mut reached = 0;
     loop {
-        let junction = nearest(labels, &settled);
-        if junction == junctions {
+        let key = least_key(&tree);
+        if key == UNREACHED {
             break;
         }
+        let junction = junction_of(key);
         settled[junction] = true;
+        enter(&mut tree, junction, UNREACHED);
         let tick = labels[junction];
-        let interval = fences_passed(fences, tick) - 1;
+        // Settled labels never fall: the fences that the one before had reached, this one has reached too.
+        reached = fences_passed_from(fences, reached, tick);
+        let interval = reached - 1;
         let mut a = first[junction];
         while a != NO_ARC {
             let arc = a as usize;
@@ -161,6 +170,7 @@ pub(crate) fn label_all(
                     speeds,
                     labels,
                     predecessors,
+                    &mut tree,
                 );
             }
             a = next[arc];

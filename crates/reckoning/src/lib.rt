@@ -3,3 +3,4 @@
 mod labelling;
 pub mod labels;
 pub mod route;
+mod tournament;

@@ -5,32 +5,34 @@ use Prim.Native.Nat.{_-_, _<_}
 use mathlib.Core.Path.{refl, sym, ap, subst, _∙_}
 use mathlib.Core.Logic.{⊎-elim}
 use native.Mathlib.Omega.{arith}
-use lib.ListN.{length, getD, set, replicate, length-replicate}
+use lib.ListN.{length, set, replicate, length-replicate}
 use mir.Facts.{fits-widen}
 use denote.Ref.{now}
 use borrow.Author.Tests.{not-true, not-false}
 use Rattle.model.specs.Ticks.{never}
 use Rattle.model.specs.Labels.{noArc}
-use Rattle.model.specs.Network.{Network, network}
+use Rattle.model.specs.Network.{network}
 use Rattle.model.proofs.IntervalWalk.{some-passed}
-use Rattle.reckoning.specs.Labelling.{Linked, Nearest}
-use Rattle.reckoning.proofs.Turns.{waiting, waiting-falls, Round, round-starts, round-ends, Turn, turn-starts, turn-offerable, turn-skips, turn-offers, next-higher, turn-ends}
+use Rattle.reckoning.specs.Labelling.{Linked}
+use Rattle.reckoning.proofs.Matches.{equal-keys}
+use Rattle.reckoning.proofs.Queue.{Nearest, least-is-nearest}
+use Rattle.reckoning.proofs.Turns.{waiting, waiting-falls, Round, round-starts, round-ends, still-reached, Turn, turn-starts, turn-offerable, turn-skips, turn-offers, next-higher, turn-ends}
 use Rattle.reckoning.proofs.labelling.label_all.Statement.{statement}
 use Rattle.reckoning.proofs.labelling.label_all.Tie as tie
 
 abbrev Inv-loop2 : tie.InvT-loop2
-Inv-loop2 junctions fences tails heads lengths speeds source departure labels₀ predecessors₀ first next settled junction tick interval a₀ labels predecessors a =
-    Linked tails first next × Turn (network junctions fences tails heads lengths speeds) source departure settled junction tick interval a labels predecessors
+Inv-loop2 junctions fences tails heads lengths speeds source departure labels₀ predecessors₀ first next settled tree₀ reached key junction tick interval a₀ labels predecessors tree a =
+    Linked tails first next × Turn (network junctions fences tails heads lengths speeds) source departure settled junction tick interval a labels predecessors tree
 
 abbrev μ-loop2 : tie.MeasureT-loop2
-μ-loop2 junctions fences tails heads lengths speeds source departure labels₀ predecessors₀ first next settled junction tick interval a₀ labels predecessors a = noArc - a
+μ-loop2 junctions fences tails heads lengths speeds source departure labels₀ predecessors₀ first next settled tree₀ reached key junction tick interval a₀ labels predecessors tree a = noArc - a
 
 abbrev Inv-loop : tie.InvT-loop
-Inv-loop junctions fences tails heads lengths speeds source departure labels₀ predecessors₀ first next settled₀ labels predecessors settled =
-    Linked tails first next × Round (network junctions fences tails heads lengths speeds) source departure settled labels predecessors
+Inv-loop junctions fences tails heads lengths speeds source departure labels₀ predecessors₀ first next settled₀ tree₀ reached₀ labels predecessors settled tree reached =
+    Linked tails first next × Round (network junctions fences tails heads lengths speeds) source departure settled reached labels predecessors tree
 
 abbrev μ-loop : tie.MeasureT-loop
-μ-loop junctions fences tails heads lengths speeds source departure labels₀ predecessors₀ first next settled₀ labels predecessors settled = waiting settled
+μ-loop junctions fences tails heads lengths speeds source departure labels₀ predecessors₀ first next settled₀ tree₀ reached₀ labels predecessors settled tree reached = waiting settled
 
 -- the start, from the places that follow it
 abbrev start : tie.After-clear Inv-loop2 μ-loop2 Inv-loop μ-loop → tie.Start Inv-loop2 μ-loop2 Inv-loop μ-loop
@@ -40,80 +42,132 @@ abbrev cleared : tie.After-link-arcs Inv-loop2 μ-loop2 Inv-loop μ-loop → tie
 cleared c = c .before .before .before .before .before .before .before
 
 abbrev start-of : tie.At-loop Inv-loop2 μ-loop2 Inv-loop μ-loop → tie.Start Inv-loop2 μ-loop2 Inv-loop μ-loop
-start-of c = start (cleared (c .before))
+start-of c = start (cleared (c .before .before .before .before))
 
-abbrev N : tie.Start Inv-loop2 μ-loop2 Inv-loop μ-loop → Network
-N s = network (s .args .junctions) (now (s .args .fences)) (now (s .args .tails)) (now (s .args .heads)) (now (s .args .lengths)) (now (s .args .speeds))
+source-known : (s : tie.Start Inv-loop2 μ-loop2 Inv-loop μ-loop) → s .args .source < 200
+source-known s = omega (arith, s .pre .source-below, s .pre .accepted .junctions-fit)
 
 -- the nearest junction, where there is one
-abbrev at-loop : tie.Else1 Inv-loop2 μ-loop2 Inv-loop μ-loop → tie.At-loop Inv-loop2 μ-loop2 Inv-loop μ-loop
+abbrev at-loop : tie.After-junction-of Inv-loop2 μ-loop2 Inv-loop μ-loop → tie.At-loop Inv-loop2 μ-loop2 Inv-loop μ-loop
 at-loop c = c .before .before .before .before
 
-found : (c : tie.Else1 Inv-loop2 μ-loop2 Inv-loop μ-loop) → c .before .nearest .result < length (at-loop c .loop .labels)
-found c = omega (arith, c .before .nearest .ensures .within, c .if1 .left, at-loop c .loop .inv .1 .settling .labels-long)
+nearest : (c : tie.After-junction-of Inv-loop2 μ-loop2 Inv-loop μ-loop) →
+    Nearest (at-loop c .loop .labels) (at-loop c .loop .settled) (c .junction-of .result)
+nearest c =
+    let r = at-loop c .loop .inv .1 in
+    least-is-nearest (r .queued)
+    (omega (arith, r .settling .labels-long, start-of (at-loop c) .pre .accepted .junctions-fit))
+    (c .before .before .least-key .ensures)
+    (omega (arith, c .before .before .least-key .ok, c .before .if1 .left))
+    (c .junction-of .ensures)
 
-below : (c : tie.Else1 Inv-loop2 μ-loop2 Inv-loop μ-loop) → c .before .nearest .result < 200
-below c = omega (arith, found c, at-loop c .loop .inv .1 .settling .labels-long, start-of (at-loop c) .pre .accepted .junctions-fit)
+below : (c : tie.After-junction-of Inv-loop2 μ-loop2 Inv-loop μ-loop) → c .junction-of .result < 200
+below c = omega (arith, nearest c .inside, at-loop c .loop .inv .1 .settling .labels-long, start-of (at-loop c) .pre .accepted .junctions-fit)
 
-interval-known : (c : tie.After-fences-passed Inv-loop2 μ-loop2 Inv-loop μ-loop) → 0 < c .fences-passed .result
+abbrev junction-at : tie.After-fences-passed-from Inv-loop2 μ-loop2 Inv-loop μ-loop → tie.After-junction-of Inv-loop2 μ-loop2 Inv-loop μ-loop
+junction-at c = c .before .before .before .before
+
+interval-known : (c : tie.After-fences-passed-from Inv-loop2 μ-loop2 Inv-loop μ-loop) → 0 < c .fences-passed-from .result
 interval-known c =
-    let a = start-of (at-loop (c .before .before)) .pre .accepted in
-    omega (arith, c .fences-passed .ensures, some-passed (now (start-of (at-loop (c .before .before)) .args .fences)) (getD (at-loop (c .before .before) .loop .labels) (c .before .before .before .nearest .result) 0) (a .fences-kept) (a .some-interval))
+    let a = start-of (at-loop (junction-at c)) .pre .accepted in
+    subst (λ n. 0 < n) (sym (c .fences-passed-from .ensures)) (some-passed _ _ (a .fences-kept) (a .some-interval))
 
 -- the arc at hand
-abbrev turn-of : tie.In-loop2 Inv-loop2 μ-loop2 Inv-loop μ-loop → tie.Else1 Inv-loop2 μ-loop2 Inv-loop μ-loop
-turn-of c = c .before .before .before .before
+abbrev turn-of : tie.In-loop2 Inv-loop2 μ-loop2 Inv-loop μ-loop → tie.Start Inv-loop2 μ-loop2 Inv-loop μ-loop
+turn-of c = start-of (at-loop (junction-at (c .before .before)))
 
-arc-at : (c : tie.In-loop2 Inv-loop2 μ-loop2 Inv-loop μ-loop) → c .before .loop2 .a < length (now (start-of (at-loop (turn-of c)) .args .tails))
+arc-at : (c : tie.In-loop2 Inv-loop2 μ-loop2 Inv-loop μ-loop) → c .before .loop2 .a < length (now (turn-of c .args .tails))
 arc-at c = c .before .loop2 .inv .1 .arc-is (c .loop2-test .taken) .0
 
 few : (c : tie.In-loop2 Inv-loop2 μ-loop2 Inv-loop μ-loop) → c .before .loop2 .a < 640
-few c = omega (arith, arc-at c, start-of (at-loop (turn-of c)) .pre .accepted .arcs-fit)
+few c = omega (arith, arc-at c, turn-of c .pre .accepted .arcs-fit)
 
 clear-requires : tie.Need-clear-requires Inv-loop2 μ-loop2 Inv-loop μ-loop
-clear-requires c κs = c .before .before .before .before .before .before .before .before .before .pre .predecessors-long ∙ sym (c .before .before .before .before .before .before .before .before .before .pre .labels-long)
+clear-requires c κs =
+    let q = c .before .before .before .before .before .before .before .before .before .pre in
+    q .predecessors-long ∙ sym (q .labels-long)
 
 mul-labels : tie.Need-mul-labels Inv-loop2 μ-loop2 Inv-loop μ-loop
-mul-labels c = omega (arith, start (c .before .before .before .before) .pre .source-below, start (c .before .before .before .before) .pre .accepted .junctions-fit)
+mul-labels c = omega (arith, source-known (start (c .before .before .before .before)))
 
 slice-write-labels : tie.Need-slice-write-labels Inv-loop2 μ-loop2 Inv-loop μ-loop
-slice-write-labels c = omega (arith, ap length (c .before .before .before .before .clear .ensures .0), length-replicate (length (now (start (c .before .before .before .before) .args .labels))) never, start (c .before .before .before .before) .pre .labels-long, start (c .before .before .before .before) .pre .source-below)
+slice-write-labels c =
+    let a = c .before .before .before .before in
+    let s = start a in
+    omega (arith, ap length (a .clear .ensures .0), length-replicate (length (now (s .args .labels))) never, s .pre .labels-long, s .pre .source-below)
 
 link-arcs-requires : tie.Need-link-arcs-requires Inv-loop2 μ-loop2 Inv-loop μ-loop
-link-arcs-requires c κs = (start (c .before .before .before .before .before .before) .pre .accepted .arcs-fit, ((λ a h. omega (arith, start (c .before .before .before .before .before .before) .pre .accepted .tail-below a h, start (c .before .before .before .before .before .before) .pre .accepted .junctions-fit)), (refl, refl)))
+link-arcs-requires c κs =
+    let a = start (c .before .before .before .before .before .before) .pre .accepted in
+    (a .arcs-fit, ((λ b h. omega (arith, a .tail-below b h, a .junctions-fit)), (refl, refl)))
+
+key-of-requires : tie.Need-key-of-requires Inv-loop2 μ-loop2 Inv-loop μ-loop
+key-of-requires c κs = let s = start (cleared (c .before)) in (omega (arith, s .pre .departure-below), source-known s)
+
+enter-requires : tie.Need-enter-requires Inv-loop2 μ-loop2 Inv-loop μ-loop
+enter-requires c κs = (equal-keys never, source-known (start (cleared (c .before .before))))
 
 loop-holds : tie.Need-loop-holds Inv-loop2 μ-loop2 Inv-loop μ-loop
-loop-holds c = (c .link-arcs .ensures, round-starts (start (cleared c) .pre) (ap (λ l. set l (start (cleared c) .args .source) (start (cleared c) .args .departure)) (cleared c .clear .ensures .0 ∙ ap (λ n. replicate n never) (start (cleared c) .pre .labels-long))) (cleared c .clear .ensures .1 ∙ ap (λ n. replicate n noArc) (start (cleared c) .pre .labels-long)))
+loop-holds c =
+    let l = c .before .before .before in
+    let clear = cleared l .clear .ensures in
+    let s = start (cleared l) in (
+      l .link-arcs .ensures,
+      round-starts (s .pre)
+          (ap (λ labels. set labels (s .args .source) (s .args .departure)) (clear .0 ∙ ap (λ n. replicate n never) (s .pre .labels-long)))
+          (clear .1 ∙ ap (λ n. replicate n noArc) (s .pre .labels-long))
+          (c .before .key-of .ensures)
+          (c .enter .ensures),
+    )
 
-nearest-requires : tie.Need-nearest-requires Inv-loop2 μ-loop2 Inv-loop μ-loop
-nearest-requires c κs = omega (arith, c .before .before .loop .inv .1 .settling .labels-long, start-of (c .before .before) .pre .accepted .junctions-fit)
+least-key-requires : tie.Need-least-key-requires Inv-loop2 μ-loop2 Inv-loop μ-loop
+least-key-requires c κs = c .before .loop .inv .1 .queued .tournament
 
 array-write-settled : tie.Need-array-write-settled Inv-loop2 μ-loop2 Inv-loop μ-loop
-array-write-settled c = omega (arith, below c, start-of (at-loop c) .pre .source-below, start-of (at-loop c) .pre .accepted .junctions-fit)
+array-write-settled c = omega (arith, below c)
+
+enter-requires-2 : tie.Need-enter-requires-2 Inv-loop2 μ-loop2 Inv-loop μ-loop
+enter-requires-2 c κs = (at-loop (c .before) .loop .inv .1 .queued .tournament, below (c .before))
 
 mul-tick : tie.Need-mul-tick Inv-loop2 μ-loop2 Inv-loop μ-loop
-mul-tick c = omega (arith, below c)
+mul-tick c = omega (arith, below (c .before .before))
 
 slice-read-tick : tie.Need-slice-read-tick Inv-loop2 μ-loop2 Inv-loop μ-loop
-slice-read-tick c = found (c .before)
+slice-read-tick c = nearest (c .before .before .before) .inside
+
+fences-passed-from-requires : tie.Need-fences-passed-from-requires Inv-loop2 μ-loop2 Inv-loop μ-loop
+fences-passed-from-requires c κs =
+    let j = c .before .before .before in
+    still-reached (start-of (at-loop j) .pre) (at-loop j .loop .inv .1) (nearest j)
 
 sub-interval : tie.Need-sub-interval Inv-loop2 μ-loop2 Inv-loop μ-loop
 sub-interval c = interval-known c
 
 mul-a : tie.Need-mul-a Inv-loop2 μ-loop2 Inv-loop μ-loop
-mul-a c = omega (arith, below (c .before .before))
+mul-a c = omega (arith, below (junction-at c))
 
 array-read-a : tie.Need-array-read-a Inv-loop2 μ-loop2 Inv-loop μ-loop
-array-read-a c = below (c .before .before)
+array-read-a c = below (junction-at c)
 
 loop2-holds : tie.Need-loop2-holds Inv-loop2 μ-loop2 Inv-loop μ-loop
-loop2-holds c = (at-loop (c .before .before) .loop .inv .0, turn-starts (start-of (at-loop (c .before .before)) .pre) (at-loop (c .before .before) .loop .inv .1) (c .before .before .before .nearest .ensures) (found (c .before .before)) (at-loop (c .before .before) .loop .inv .0) (omega (arith, interval-known c, c .fences-passed .ensures)))
+loop2-holds c =
+    let j = junction-at c in
+    let (linked, round) = at-loop j .loop .inv in (
+      linked,
+      turn-starts (start-of (at-loop j) .pre) round (nearest j) (c .before .before .enter2 .ensures) linked
+          (omega (arith, interval-known c, c .fences-passed-from .ensures)),
+    )
 
 loop-less : tie.Need-loop-less Inv-loop2 μ-loop2 Inv-loop μ-loop
-loop-less c = waiting-falls _ _ (omega (arith, below (c .before .before .before .before), at-loop (c .before .before .before .before) .loop .inv .1 .settled-long)) ((c .before .before .before .before) .before .nearest .ensures .unsettled (found (c .before .before .before .before)))
+loop-less c =
+    let j = junction-at (c .before .before) in
+    waiting-falls _ _ (omega (arith, below j, at-loop j .loop .inv .1 .settled-long)) (nearest j .unsettled)
 
 loop-again : tie.Need-loop-again Inv-loop2 μ-loop2 Inv-loop μ-loop
-loop-again c = (c .before .loop2 .inv .0, turn-ends (start-of (at-loop (c .before .before .before .before)) .pre) (c .before .loop2 .inv .1) (c .loop2-test .left))
+loop-again c =
+    let f = c .before .before in
+    let (linked, turn) = c .before .loop2 .inv in
+    (linked, turn-ends (start-of (at-loop (junction-at f)) .pre) turn (c .loop2-test .left) (omega (arith, f .fences-passed-from .ensures)))
 
 cast-arc : tie.Need-cast-arc Inv-loop2 μ-loop2 Inv-loop μ-loop
 cast-arc c = omega (arith, few c)
@@ -122,16 +176,18 @@ mul-head : tie.Need-mul-head Inv-loop2 μ-loop2 Inv-loop μ-loop
 mul-head c = omega (arith, few c)
 
 shared-slice-read-head : tie.Need-shared-slice-read-head Inv-loop2 μ-loop2 Inv-loop μ-loop
-shared-slice-read-head c = omega (arith, arc-at (c .before), start-of (at-loop (turn-of (c .before))) .pre .accepted .heads-long)
+shared-slice-read-head c = omega (arith, arc-at (c .before), turn-of (c .before) .pre .accepted .heads-long)
 
 cast-head : tie.Need-cast-head Inv-loop2 μ-loop2 Inv-loop μ-loop
 cast-head c = fits-widen tt (c .shared-slice-known6 .given _)
 
 array-read-if2 : tie.Need-array-read-if2 Inv-loop2 μ-loop2 Inv-loop μ-loop
-array-read-if2 c = omega (arith, start-of (at-loop (turn-of (c .before))) .pre .accepted .head-below _ (arc-at (c .before)), start-of (at-loop (turn-of (c .before))) .pre .accepted .junctions-fit)
+array-read-if2 c = omega (arith, turn-of (c .before) .pre .accepted .head-below _ (arc-at (c .before)), turn-of (c .before) .pre .accepted .junctions-fit)
 
 offer-requires : tie.Need-offer-requires Inv-loop2 μ-loop2 Inv-loop μ-loop
-offer-requires c κs = turn-offerable (start-of (at-loop (turn-of (c .before .before .before .before))) .pre) (c .before .before .before .before .before .loop2 .inv .0) (c .before .before .before .before .before .loop2 .inv .1) (c .before .before .before .before .loop2-test .taken)
+offer-requires c κs =
+    let i = c .before .before .before .before .before in
+    turn-offerable (turn-of i .pre) (i .before .loop2 .inv .0) (i .before .loop2 .inv .1) (i .loop2-test .taken)
 
 mul-a-2 : tie.Need-mul-a-2 Inv-loop2 μ-loop2 Inv-loop μ-loop
 mul-a-2 c = omega (arith, few (c .before .before))
@@ -140,26 +196,30 @@ array-read-a-2 : tie.Need-array-read-a-2 Inv-loop2 μ-loop2 Inv-loop μ-loop
 array-read-a-2 c = few (c .before .before)
 
 loop2-less : tie.Need-loop2-less Inv-loop2 μ-loop2 Inv-loop μ-loop
-loop2-less c = ⊎-elim (λ e. omega (arith, e, few (c .before .before))) (λ h. omega (arith, h, few (c .before .before))) (next-higher (start-of (at-loop (turn-of (c .before .before))) .pre) (c .before .before .before .loop2 .inv .0) (c .before .before .before .loop2 .inv .1) (c .before .before .loop2-test .taken))
+loop2-less c =
+    let i = c .before .before in
+    next-higher (turn-of i .pre) (i .before .loop2 .inv .0) (i .before .loop2 .inv .1) (i .loop2-test .taken)
 
 loop2-again : tie.Need-loop2-again Inv-loop2 μ-loop2 Inv-loop μ-loop
-loop2-again c = (
-  c .before .before .before .loop2 .inv .0,
-  ⊎-elim
-      (λ w. rw (w .8, w .9, w .3 .ensures .0, w .3 .ensures .1) (turn-offers (start-of (at-loop (turn-of (c .before .before))) .pre) (c .before .before .before .loop2 .inv .0) (c .before .before .before .loop2 .inv .1) (c .before .before .loop2-test .taken) (not-true _ (w .0 .taken))))
-      (λ w. rw (w .1, w .2) (turn-skips (start-of (at-loop (turn-of (c .before .before))) .pre) (c .before .before .before .loop2 .inv .0) (c .before .before .before .loop2 .inv .1) (c .before .before .loop2-test .taken) (not-false _ (w .0 .left))))
-      (c .if2 .came),
-)
+loop2-again c =
+    let i = c .before .before in
+    let (linked, turn) = i .before .loop2 .inv in (
+      linked,
+      ⊎-elim
+          (λ w. rw (w .9, w .10, w .11, w .4 .ensures .0, w .4 .ensures .1 .0)
+          (turn-offers (turn-of i .pre) linked turn (i .loop2-test .taken) (not-true _ (w .0 .taken)) (w .4 .ensures .1 .1)))
+          (λ w. rw (w .1, w .2, w .3) (turn-skips (turn-of i .pre) linked turn (i .loop2-test .taken) (not-false _ (w .0 .left))))
+          (c .if2 .came),
+    )
 
 same-length : tie.Need-same-length Inv-loop2 μ-loop2 Inv-loop μ-loop
-same-length c = c .before .before .before .before .loop .inv .1 .settling .labels-long ∙ sym (start-of (c .before .before .before .before) .pre .labels-long)
+same-length c = c .before .before .before .loop .inv .1 .settling .labels-long ∙ sym (start-of (c .before .before .before) .pre .labels-long)
 
 same-length-2 : tie.Need-same-length-2 Inv-loop2 μ-loop2 Inv-loop μ-loop
-same-length-2 c = c .before .before .before .before .loop .inv .1 .settling .predecessors-long ∙ sym (start-of (c .before .before .before .before) .pre .predecessors-long)
+same-length-2 c = c .before .before .before .loop .inv .1 .settling .predecessors-long ∙ sym (start-of (c .before .before .before) .pre .predecessors-long)
 
 returns : tie.Need-returns Inv-loop2 μ-loop2 Inv-loop μ-loop
-returns c = let r = c .before .before .before .before .loop .inv .1 in
-    round-ends (start-of (c .before .before .before .before) .pre) r (subst (Nearest _ _) (c .if1 .taken ∙ sym (r .settling .labels-long)) (c .before .nearest .ensures))
+returns c = round-ends (start-of (c .before .before .before) .pre) (c .before .before .before .loop .inv .1) (c .before .least-key .ensures) (omega (arith, c .if1 .taken))
 
 pub label-all-spec : {M : Type 1} → statement M
 label-all-spec =
@@ -173,12 +233,16 @@ label-all-spec =
     mul-labels
     slice-write-labels
     link-arcs-requires
+    key-of-requires
+    enter-requires
     loop-holds
-    nearest-requires
+    least-key-requires
+    (λ c κs. search needs)
     array-write-settled
+    enter-requires-2
     mul-tick
     slice-read-tick
-    (λ c κs. search needs)
+    fences-passed-from-requires
     sub-interval
     mul-a
     array-read-a

@@ -1,0 +1,156 @@
+//! What is measured: calls whose buffers are made before.
+
+use std::hint::black_box;
+
+use compare::inputs::towns::{DEPARTURE, SOURCE, Town};
+use compare::operations::{CABINET, Operations, REFERENCE};
+use compare::reference::limits::{MAX_ARCS, MAX_INTERVALS, REFUSED};
+
+#[derive(Clone, Copy, PartialEq)]
+pub enum Operation {
+    Load,
+    Labels,
+    Route,
+    HostQuestion,
+}
+
+impl Operation {
+    pub const ALL: [Self; 4] = [Self::Load, Self::Labels, Self::Route, Self::HostQuestion];
+
+    pub fn name(self) -> &'static str {
+        match self {
+            Self::Load => "load",
+            Self::Labels => "labels",
+            Self::Route => "route",
+            Self::HostQuestion => "host-question",
+        }
+    }
+}
+
+#[derive(Clone, Copy)]
+pub enum Implementation {
+    Rattle,
+    Rust,
+}
+
+impl Implementation {
+    pub const BOTH: [Self; 2] = [Self::Rattle, Self::Rust];
+
+    pub fn name(self) -> &'static str {
+        match self {
+            Self::Rattle => "rattle",
+            Self::Rust => "rust",
+        }
+    }
+
+    pub fn named(name: &str) -> Option<Self> {
+        Self::BOTH.into_iter().find(|one| one.name() == name)
+    }
+
+    fn operations(self) -> &'static Operations {
+        match self {
+            Self::Rattle => &CABINET,
+            Self::Rust => &REFERENCE,
+        }
+    }
+}
+
+/// One operation on one town.
+pub struct Row {
+    pub operation: Operation,
+    pub town: Town,
+}
+
+impl Row {
+    pub fn named(operation: &str, town: &str) -> Option<Self> {
+        let named = |one: &Operation| one.name() == operation;
+        Some(Self {
+            operation: Operation::ALL.into_iter().find(named)?,
+            town: Town::named(town)?,
+        })
+    }
+
+    /// All rows; the full town has no text that Load takes.
+    pub fn all() -> Vec<Self> {
+        let mut rows = Vec::new();
+        for operation in Operation::ALL {
+            for town in Town::NAMES {
+                if town != "full" || operation == Operation::Labels {
+                    rows.extend(Self::named(operation.name(), town));
+                }
+            }
+        }
+        rows
+    }
+
+    /// A call that can be repeated and lends the same buffers each time.
+    pub fn call(&self, implementation: Implementation) -> Box<dyn FnMut() + '_> {
+        let operations = implementation.operations();
+        match self.operation {
+            Operation::Load => load(operations, &self.town),
+            Operation::Labels => labels(operations, &self.town),
+            Operation::Route => route(operations, &self.town),
+            Operation::HostQuestion => host_question(operations, &self.town),
+        }
+    }
+}
+
+fn load<'a>(operations: &'a Operations, town: &'a Town) -> Box<dyn FnMut() + 'a> {
+    let mut fences = vec![0; MAX_INTERVALS];
+    let mut tails = vec![0; MAX_ARCS];
+    let mut heads = vec![0; MAX_ARCS];
+    let mut lengths = vec![0; MAX_ARCS];
+    let mut speeds = vec![0; MAX_ARCS * MAX_INTERVALS];
+    Box::new(move || {
+        let reply = (operations.load)(
+            black_box(&town.text),
+            black_box(&mut fences),
+            black_box(&mut tails),
+            black_box(&mut heads),
+            black_box(&mut lengths),
+            black_box(&mut speeds),
+        );
+        assert!(reply.is_ok());
+    })
+}
+
+fn labels<'a>(operations: &'a Operations, town: &'a Town) -> Box<dyn FnMut() + 'a> {
+    let network = town.network.lent();
+    let mut labels = vec![0; network.junctions as usize];
+    let mut predecessors = vec![0; network.junctions as usize];
+    Box::new(move || {
+        let reply = (operations.labels)(
+            black_box(&network),
+            SOURCE,
+            DEPARTURE,
+            black_box(&mut labels),
+            black_box(&mut predecessors),
+        );
+        assert!(reply.is_ok());
+    })
+}
+
+fn route<'a>(operations: &'a Operations, town: &'a Town) -> Box<dyn FnMut() + 'a> {
+    let network = town.network.lent();
+    let destination = town.destination();
+    let mut arcs = vec![0; network.junctions as usize];
+    Box::new(move || {
+        let reply = (operations.route)(
+            black_box(&network),
+            SOURCE,
+            DEPARTURE,
+            destination,
+            black_box(&mut arcs),
+        );
+        assert!(reply.is_ok());
+    })
+}
+
+fn host_question<'a>(operations: &'a Operations, town: &'a Town) -> Box<dyn FnMut() + 'a> {
+    let destination = town.destination();
+    Box::new(move || {
+        let text = black_box(&town.text);
+        let answer = (operations.host_question)(text, SOURCE, DEPARTURE, destination);
+        assert!(answer < REFUSED);
+    })
+}

@@ -1,0 +1,283 @@
+//! The verified library's functions, with the reference's signatures.
+//!
+//! All `unsafe` of the package stands here. A lent slice crosses the boundary
+//! as its pointer and its length; the library keeps neither after the call.
+
+use crate::reference::limits::{REFUSED, UNREACHED};
+use crate::reference::{Counts, LoadRefusal, Network, Refusal};
+
+mod exports {
+    unsafe extern "C" {
+        pub fn exports_network_check(
+            junctions: u32,
+            fences: *const u32,
+            fence_count: usize,
+            tails: *const u16,
+            tail_count: usize,
+            heads: *const u16,
+            head_count: usize,
+            lengths: *const u32,
+            length_count: usize,
+            speeds: *const u8,
+            speed_count: usize,
+        ) -> u32;
+
+        pub fn exports_arc_arrival(
+            departure: u32,
+            length: u32,
+            fences: *const u32,
+            fence_count: usize,
+            speeds: *const u8,
+            speed_count: usize,
+        ) -> u32;
+
+        pub fn exports_labels(
+            junctions: u32,
+            fences: *const u32,
+            fence_count: usize,
+            tails: *const u16,
+            tail_count: usize,
+            heads: *const u16,
+            head_count: usize,
+            lengths: *const u32,
+            length_count: usize,
+            speeds: *const u8,
+            speed_count: usize,
+            source: u32,
+            departure: u32,
+            labels: *mut u32,
+            label_count: usize,
+            predecessors: *mut u16,
+            predecessor_count: usize,
+        ) -> u32;
+
+        pub fn exports_route(
+            junctions: u32,
+            fences: *const u32,
+            fence_count: usize,
+            tails: *const u16,
+            tail_count: usize,
+            heads: *const u16,
+            head_count: usize,
+            lengths: *const u32,
+            length_count: usize,
+            speeds: *const u8,
+            speed_count: usize,
+            source: u32,
+            departure: u32,
+            destination: u32,
+            arcs: *mut u16,
+            arc_count: usize,
+        ) -> u32;
+
+        pub fn exports_load(
+            text: *const u8,
+            text_length: usize,
+            fences: *mut u32,
+            fence_count: usize,
+            tails: *mut u16,
+            tail_count: usize,
+            heads: *mut u16,
+            head_count: usize,
+            lengths: *mut u32,
+            length_count: usize,
+            speeds: *mut u8,
+            speed_count: usize,
+        ) -> u64;
+
+        pub fn exports_name(text: *const u8, text_length: usize, junction: u32) -> u64;
+
+        pub fn cabinet_host_question(
+            text: *const u8,
+            text_length: usize,
+            source: u32,
+            departure: u32,
+            destination: u32,
+        ) -> u32;
+    }
+}
+
+/// Set in Load's answer when it is a refusal.
+const LOAD_REFUSED: u64 = 1 << 63;
+
+pub fn network_check(network: &Network) -> Result<(), Refusal> {
+    // SAFETY: each pointer and length belong to one slice lent for the call.
+    let answer = unsafe {
+        exports::exports_network_check(
+            network.junctions,
+            network.fences.as_ptr(),
+            network.fences.len(),
+            network.tails.as_ptr(),
+            network.tails.len(),
+            network.heads.as_ptr(),
+            network.heads.len(),
+            network.lengths.as_ptr(),
+            network.lengths.len(),
+            network.speeds.as_ptr(),
+            network.speeds.len(),
+        )
+    };
+    accepted(answer)
+}
+
+pub fn arc_arrival(
+    departure: u32,
+    length: u32,
+    fences: &[u32],
+    speeds: &[u8],
+) -> Result<Option<u32>, Refusal> {
+    // SAFETY: each pointer and length belong to one slice lent for the call.
+    let answer = unsafe {
+        exports::exports_arc_arrival(
+            departure,
+            length,
+            fences.as_ptr(),
+            fences.len(),
+            speeds.as_ptr(),
+            speeds.len(),
+        )
+    };
+    match answer {
+        UNREACHED => Ok(None),
+        _ => decoded(answer).map(Some),
+    }
+}
+
+pub fn labels(
+    network: &Network,
+    source: u32,
+    departure: u32,
+    labels: &mut [u32],
+    predecessors: &mut [u16],
+) -> Result<(), Refusal> {
+    // SAFETY: each pointer and length belong to one slice lent for the call,
+    // the last two for writing and to nobody else.
+    let answer = unsafe {
+        exports::exports_labels(
+            network.junctions,
+            network.fences.as_ptr(),
+            network.fences.len(),
+            network.tails.as_ptr(),
+            network.tails.len(),
+            network.heads.as_ptr(),
+            network.heads.len(),
+            network.lengths.as_ptr(),
+            network.lengths.len(),
+            network.speeds.as_ptr(),
+            network.speeds.len(),
+            source,
+            departure,
+            labels.as_mut_ptr(),
+            labels.len(),
+            predecessors.as_mut_ptr(),
+            predecessors.len(),
+        )
+    };
+    accepted(answer)
+}
+
+pub fn route(
+    network: &Network,
+    source: u32,
+    departure: u32,
+    destination: u32,
+    arcs: &mut [u16],
+) -> Result<u32, Refusal> {
+    // SAFETY: each pointer and length belong to one slice lent for the call,
+    // the last for writing and to nobody else.
+    let answer = unsafe {
+        exports::exports_route(
+            network.junctions,
+            network.fences.as_ptr(),
+            network.fences.len(),
+            network.tails.as_ptr(),
+            network.tails.len(),
+            network.heads.as_ptr(),
+            network.heads.len(),
+            network.lengths.as_ptr(),
+            network.lengths.len(),
+            network.speeds.as_ptr(),
+            network.speeds.len(),
+            source,
+            departure,
+            destination,
+            arcs.as_mut_ptr(),
+            arcs.len(),
+        )
+    };
+    decoded(answer)
+}
+
+pub fn load(
+    text: &[u8],
+    fences: &mut [u32],
+    tails: &mut [u16],
+    heads: &mut [u16],
+    lengths: &mut [u32],
+    speeds: &mut [u8],
+) -> Result<Counts, LoadRefusal> {
+    // SAFETY: each pointer and length belong to one slice lent for the call,
+    // all but the text for writing and to nobody else.
+    let answer = unsafe {
+        exports::exports_load(
+            text.as_ptr(),
+            text.len(),
+            fences.as_mut_ptr(),
+            fences.len(),
+            tails.as_mut_ptr(),
+            tails.len(),
+            heads.as_mut_ptr(),
+            heads.len(),
+            lengths.as_mut_ptr(),
+            lengths.len(),
+            speeds.as_mut_ptr(),
+            speeds.len(),
+        )
+    };
+    let (high, low) = halves(answer & !LOAD_REFUSED);
+    if answer & LOAD_REFUSED != 0 {
+        return Err(LoadRefusal {
+            refusal: Refusal(high),
+            line: low,
+        });
+    }
+    Ok(Counts {
+        junctions: low & 0xffff,
+        intervals: low >> 16,
+        arcs: high,
+    })
+}
+
+pub fn name(text: &[u8], junction: u32) -> &[u8] {
+    // SAFETY: the pointer and length belong to the text lent for the call.
+    let answer = unsafe { exports::exports_name(text.as_ptr(), text.len(), junction) };
+    let (start, length) = halves(answer);
+    &text[start as usize..][..length as usize]
+}
+
+pub fn host_question(text: &[u8], source: u32, departure: u32, destination: u32) -> u32 {
+    // SAFETY: the pointer and length belong to the text lent for the call.
+    unsafe {
+        exports::cabinet_host_question(text.as_ptr(), text.len(), source, departure, destination)
+    }
+}
+
+/// Reads an answer that is 0 or a refusal's number.
+fn accepted(answer: u32) -> Result<(), Refusal> {
+    match answer {
+        0 => Ok(()),
+        number => Err(Refusal(number)),
+    }
+}
+
+/// Reads an answer that is a value or a refusal's number above `REFUSED`.
+fn decoded(answer: u32) -> Result<u32, Refusal> {
+    match answer.checked_sub(REFUSED) {
+        None => Ok(answer),
+        Some(number) => Err(Refusal(number)),
+    }
+}
+
+fn halves(answer: u64) -> (u32, u32) {
+    ((answer >> 32) as u32, answer as u32)
+}

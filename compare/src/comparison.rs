@@ -1,0 +1,128 @@
+//! Comparisons of the verified library with the reference, and properties of
+//! it that document 01 demands, on random inputs.
+
+pub mod answers;
+pub mod cases;
+mod lent;
+pub mod program;
+pub mod properties;
+
+use std::collections::BTreeMap;
+use std::fmt;
+use std::iter;
+use std::ops::RangeInclusive;
+
+use crate::inputs::Random;
+use crate::reference::Refusal;
+
+/// A comparison that makes its own inputs.
+pub struct Check {
+    pub name: &'static str,
+    /// How many cases the tests run; a longer run keeps the proportions.
+    pub cases: u64,
+    pub run: fn(&mut Random) -> Result<Outcome, Difference>,
+    /// Whether some cases must find nothing.
+    pub finds_nothing: bool,
+    /// Refusals that must occur.
+    pub refuses: &'static [RangeInclusive<u32>],
+}
+
+pub const CHECKS: [&Check; 12] = [
+    &cases::NETWORK_CHECK,
+    &cases::ARC_ARRIVAL,
+    &cases::LABELS,
+    &cases::ROUTE,
+    &cases::LOAD,
+    &cases::NAME,
+    &cases::HOST_QUESTION,
+    &cases::ARRIVALS,
+    &properties::NON_PASSING,
+    &properties::ARC_BY_TICKS,
+    &properties::LABELS_BY_WALKS,
+    &properties::IMPROVEMENT,
+];
+
+/// What a case came to, for counting.
+#[derive(Clone, Copy, Debug, PartialEq, Eq, PartialOrd, Ord)]
+pub enum Outcome {
+    Answered,
+    /// The arc cannot be driven, or there is no name.
+    Nothing,
+    Refused(Refusal),
+}
+
+impl Outcome {
+    fn of<T>(reply: &Result<T, Refusal>) -> Self {
+        match reply {
+            Ok(_) => Self::Answered,
+            &Err(refusal) => Self::Refused(refusal),
+        }
+    }
+}
+
+impl fmt::Display for Outcome {
+    fn fmt(&self, f: &mut fmt::Formatter) -> fmt::Result {
+        match self {
+            Self::Answered => f.pad("answered"),
+            Self::Nothing => f.pad("nothing"),
+            Self::Refused(Refusal(number)) => f.pad(&format!("refused {number}")),
+        }
+    }
+}
+
+/// A case in which the library does not answer as it should.
+#[derive(Debug)]
+pub struct Difference {
+    pub question: String,
+    /// The network or the text that the question is about.
+    pub input: Vec<u8>,
+    pub expected: String,
+    pub found: String,
+}
+
+impl fmt::Display for Difference {
+    fn fmt(&self, f: &mut fmt::Formatter) -> fmt::Result {
+        /// The reply stands first; the tables after it may be long.
+        const SHOWN: usize = 2_000;
+        writeln!(f, "{}", self.question)?;
+        writeln!(f, "expected: {:.SHOWN$}", self.expected)?;
+        write!(f, "found:    {:.SHOWN$}", self.found)
+    }
+}
+
+/// How often each outcome occurred.
+#[derive(Default)]
+pub struct Tally(BTreeMap<Outcome, u64>);
+
+impl Tally {
+    pub fn count(&mut self, outcome: Outcome) {
+        *self.0.entry(outcome).or_default() += 1;
+    }
+}
+
+impl fmt::Display for Tally {
+    fn fmt(&self, f: &mut fmt::Formatter) -> fmt::Result {
+        self.0
+            .iter()
+            .try_for_each(|(outcome, count)| writeln!(f, "  {outcome:12}{count:>12}"))
+    }
+}
+
+impl Check {
+    pub fn run_case(&self, seed: u64, tally: &mut Tally) -> Result<(), Difference> {
+        let outcome = (self.run)(&mut Random::new(seed))?;
+        tally.count(outcome);
+        Ok(())
+    }
+
+    /// The outcomes that must occur and did not.
+    pub fn missing(&self, tally: &Tally) -> Vec<Outcome> {
+        let nothing = self.finds_nothing.then_some(Outcome::Nothing);
+        let numbers = self.refuses.iter().cloned().flatten();
+        let refusals = numbers.map(|number| Outcome::Refused(Refusal(number)));
+        let expected = iter::once(Outcome::Answered).chain(nothing).chain(refusals);
+        expected
+            .filter(|outcome| !tally.0.contains_key(outcome))
+            .collect()
+    }
+}

@@ -1,0 +1,243 @@
+//! One question put to the reference and to the library, for each operation.
+
+use std::fmt::Debug;
+
+use super::lent::Lent;
+use super::program;
+use super::{Difference, Outcome};
+use crate::inputs::OwnedNetwork;
+use crate::operations::{CABINET, Operations, REFERENCE};
+use crate::reference::limits::REFUSED;
+use crate::reference::{self, Refusal};
+
+/// What an operation replied and what the lent buffers then hold.
+#[derive(Debug, PartialEq)]
+struct Answer<R, B> {
+    reply: R,
+    /// Whether nothing but the entries due was written.
+    kept: bool,
+    buffers: B,
+}
+
+impl<R> Answer<R, ()> {
+    /// Of an operation to which no buffer is lent.
+    fn reply(reply: R) -> Self {
+        Self {
+            reply,
+            kept: true,
+            buffers: (),
+        }
+    }
+}
+
+fn compare<R, B>(
+    question: &str,
+    input: impl Fn() -> Vec<u8>,
+    answer: impl Fn(&Operations) -> Answer<R, B>,
+) -> Result<R, Difference>
+where
+    R: Debug + PartialEq,
+    B: Debug + PartialEq,
+{
+    let expected = answer(&REFERENCE);
+    let found = answer(&CABINET);
+    if found == expected && found.kept {
+        return Ok(found.reply);
+    }
+    Err(Difference {
+        question: question.to_owned(),
+        input: input(),
+        expected: format!("{expected:?}"),
+        found: format!("{found:?}"),
+    })
+}
+
+pub(super) fn shown(network: &OwnedNetwork) -> Vec<u8> {
+    format!("{network:#?}\n").into_bytes()
+}
+
+pub(super) fn shown_arc(fences: &[u32], speeds: &[u8]) -> Vec<u8> {
+    format!("fences {fences:?}\nspeeds {speeds:?}\n").into_bytes()
+}
+
+pub fn network_check(network: &OwnedNetwork) -> Result<Outcome, Difference> {
+    let input = || shown(network);
+    let reply = compare("network check", input, |operations| {
+        Answer::reply((operations.network_check)(&network.lent()))
+    })?;
+    Ok(Outcome::of(&reply))
+}
+
+pub fn arc_arrival(
+    departure: u32,
+    length: u32,
+    fences: &[u32],
+    speeds: &[u8],
+) -> Result<Outcome, Difference> {
+    let question = format!("arc arrival at {departure}, length {length}");
+    let input = || shown_arc(fences, speeds);
+    let reply = compare(&question, input, |operations| {
+        Answer::reply((operations.arc_arrival)(departure, length, fences, speeds))
+    })?;
+    Ok(match reply {
+        Ok(None) => Outcome::Nothing,
+        _ => Outcome::of(&reply),
+    })
+}
+
+pub fn labels(
+    network: &OwnedNetwork,
+    (source, departure): (u32, u32),
+    (label_count, predecessor_count): (usize, usize),
+) -> Result<Outcome, Difference> {
+    let question = format!(
+        "labels from {source} at {departure}, buffers of {label_count} and {predecessor_count}"
+    );
+    let input = || shown(network);
+    let reply = compare(&question, input, |operations| {
+        let mut labels = Lent::new(label_count);
+        let mut predecessors = Lent::new(predecessor_count);
+        let reply = (operations.labels)(
+            &network.lent(),
+            source,
+            departure,
+            labels.part(),
+            predecessors.part(),
+        );
+        let entries = reply.map_or(0, |()| network.junctions as usize);
+        Answer {
+            reply,
+            kept: labels.kept_after(entries) && predecessors.kept_after(entries),
+            buffers: (labels, predecessors),
+        }
+    })?;
+    Ok(Outcome::of(&reply))
+}
+
+pub fn route(
+    network: &OwnedNetwork,
+    (source, departure): (u32, u32),
+    destination: u32,
+    list_length: usize,
+) -> Result<Outcome, Difference> {
+    let question =
+        format!("route from {source} at {departure} to {destination}, list of {list_length}");
+    let input = || shown(network);
+    let reply = compare(&question, input, |operations| {
+        let mut arcs = Lent::new(list_length);
+        let reply =
+            (operations.route)(&network.lent(), source, departure, destination, arcs.part());
+        Answer {
+            reply,
+            kept: arcs.kept_after(reply.unwrap_or(0) as usize),
+            buffers: arcs,
+        }
+    })?;
+    Ok(Outcome::of(&reply))
+}
+
+/// The lengths of the tables lent to Load.
+#[derive(Clone, Copy, Debug)]
+pub struct TableLengths {
+    pub fences: usize,
+    pub tails: usize,
+    pub heads: usize,
+    pub lengths: usize,
+    pub speeds: usize,
+}
+
+impl TableLengths {
+    /// As long as the entries of so many intervals and arcs.
+    pub fn exact(intervals: usize, arcs: usize) -> Self {
+        Self {
+            fences: intervals,
+            tails: arcs,
+            heads: arcs,
+            lengths: arcs,
+            speeds: arcs * intervals,
+        }
+    }
+}
+
+pub fn load(text: &[u8], tables: TableLengths) -> Result<Outcome, Difference> {
+    let question = format!("load into {tables:?}");
+    let input = || text.to_vec();
+    let reply = compare(&question, input, |operations| {
+        let mut fences = Lent::new(tables.fences);
+        let mut tails = Lent::new(tables.tails);
+        let mut heads = Lent::new(tables.heads);
+        let mut lengths = Lent::new(tables.lengths);
+        let mut speeds = Lent::new(tables.speeds);
+        let reply = (operations.load)(
+            text,
+            fences.part(),
+            tails.part(),
+            heads.part(),
+            lengths.part(),
+            speeds.part(),
+        );
+        let (intervals, arcs) = reply.map_or((0, 0), |counts| {
+            (counts.intervals as usize, counts.arcs as usize)
+        });
+        Answer {
+            reply,
+            kept: fences.kept_after(intervals)
+                && tails.kept_after(arcs)
+                && heads.kept_after(arcs)
+                && lengths.kept_after(arcs)
+                && speeds.kept_after(arcs * intervals),
+            buffers: (fences, tails, heads, lengths, speeds),
+        }
+    })?;
+    Ok(Outcome::of(&reply.map_err(|refused| refused.refusal)))
+}
+
+pub fn name(text: &[u8], junction: u32) -> Result<Outcome, Difference> {
+    let question = format!("name of {junction}");
+    let input = || text.to_vec();
+    let found = compare(&question, input, |operations| {
+        let name = (operations.name)(text, junction);
+        // The same part of the text, not only the same bytes.
+        Answer::reply((!name.is_empty()).then_some(name.as_ptr_range()))
+    })?;
+    Ok(found.map_or(Outcome::Nothing, |_| Outcome::Answered))
+}
+
+pub fn host_question(
+    text: &[u8],
+    (source, departure): (u32, u32),
+    destination: u32,
+) -> Result<Outcome, Difference> {
+    let question = format!("host question from {source} at {departure} to {destination}");
+    let input = || text.to_vec();
+    let answer = compare(&question, input, |operations| {
+        let answer = (operations.host_question)(text, source, departure, destination);
+        Answer::reply(answer)
+    })?;
+    Ok(match answer.checked_sub(REFUSED) {
+        None => Outcome::Answered,
+        Some(number) => Outcome::Refused(Refusal(number)),
+    })
+}
+
+/// Compares what the program prints with what the reference would.
+pub fn arrivals(input: &[u8]) -> Result<Outcome, Difference> {
+    let expected = String::from_utf8_lossy(&reference::arrivals_text(input)).into_owned();
+    let found = String::from_utf8_lossy(&program::run(input)).into_owned();
+    if found != expected {
+        return Err(Difference {
+            question: "the program arrivals".to_owned(),
+            input: input.to_vec(),
+            expected,
+            found,
+        });
+    }
+    let mut words = found.split_whitespace();
+    Ok(match words.next() {
+        Some("refused") => {
+            let number = words.next().and_then(|number| number.parse().ok());
+            Outcome::Refused(Refusal(number.expect("the reference prints a number")))
+        }
+        _ => Outcome::Answered,
+    })
+}

@@ -1,0 +1,215 @@
+//! Random questions for each operation, many of them to be refused.
+
+use super::answers::{self, TableLengths};
+use super::{Check, Difference, Outcome};
+use crate::inputs::damage::{damage_fences, damage_network, damage_text, replace_one};
+use crate::inputs::networks::{random_arc, random_arc_departure, random_departure, random_network};
+use crate::inputs::texts::{pad, random_town};
+use crate::inputs::{OwnedNetwork, Random};
+use crate::reference;
+use crate::reference::limits::{
+    DAY, LAST_TICK, MAX_ARCS, MAX_INTERVALS, MAX_LENGTH, MAX_SPEED, MAX_TEXT,
+};
+
+pub const NETWORK_CHECK: Check = Check {
+    name: "network check",
+    cases: 40_000,
+    run: network_check,
+    finds_nothing: false,
+    refuses: &[1..=8],
+};
+
+pub const ARC_ARRIVAL: Check = Check {
+    name: "arc arrival",
+    cases: 200_000,
+    run: arc_arrival,
+    finds_nothing: true,
+    refuses: &[2..=2, 4..=5, 7..=8, 15..=15],
+};
+
+pub const LABELS: Check = Check {
+    name: "labels",
+    cases: 40_000,
+    run: labels,
+    finds_nothing: false,
+    refuses: &[1..=11],
+};
+
+pub const ROUTE: Check = Check {
+    name: "route",
+    cases: 40_000,
+    run: route,
+    finds_nothing: false,
+    refuses: &[1..=10, 12..=14],
+};
+
+pub const LOAD: Check = Check {
+    name: "load",
+    cases: 30_000,
+    run: load,
+    finds_nothing: false,
+    refuses: &[20..=28],
+};
+
+pub const NAME: Check = Check {
+    name: "name",
+    cases: 15_000,
+    run: name,
+    finds_nothing: true,
+    refuses: &[],
+};
+
+pub const HOST_QUESTION: Check = Check {
+    name: "host question",
+    cases: 15_000,
+    run: host_question,
+    finds_nothing: false,
+    refuses: &[9..=10, 12..=13, 20..=27],
+};
+
+pub const ARRIVALS: Check = Check {
+    name: "program arrivals",
+    cases: 1_000,
+    run: arrivals,
+    finds_nothing: false,
+    refuses: &[9..=10, 20..=27],
+};
+
+fn network_check(random: &mut Random) -> Result<Outcome, Difference> {
+    let mut network = random_network(random);
+    if !random.one_in(4) {
+        damage_network(random, &mut network);
+    }
+    answers::network_check(&network)
+}
+
+fn arc_arrival(random: &mut Random) -> Result<Outcome, Difference> {
+    let (mut length, mut fences, mut speeds) = random_arc(random);
+    let mut departure = random_arc_departure(random, &fences);
+    for _ in 0..random.below(3) {
+        match random.below(8) {
+            0 => fences.resize(random.pick(&[0, MAX_INTERVALS + 1]), DAY - 1),
+            1 => speeds.push(1),
+            2 => drop(speeds.pop()),
+            3 => damage_fences(random, &mut fences),
+            4 => length = random.pick(&[0, 1, MAX_LENGTH, MAX_LENGTH + 1, u32::MAX]),
+            5 => replace_one(random, &mut speeds, &[MAX_SPEED, MAX_SPEED + 1, u8::MAX]),
+            6 => departure = random.pick(&[LAST_TICK - 1, LAST_TICK]),
+            _ => departure = random.pick(&[LAST_TICK + 1, u32::MAX]),
+        }
+    }
+    answers::arc_arrival(departure, length, &fences, &speeds)
+}
+
+fn labels(random: &mut Random) -> Result<Outcome, Difference> {
+    let mut network = random_network(random);
+    let start = random_start(random, &network);
+    let junctions = network.junctions as usize;
+    let mut buffers = (junctions, junctions);
+    if random.one_in(8) {
+        buffers = (near(random, junctions), near(random, junctions));
+    }
+    if random.one_in(4) {
+        damage_network(random, &mut network);
+    }
+    answers::labels(&network, start, buffers)
+}
+
+fn route(random: &mut Random) -> Result<Outcome, Difference> {
+    let mut network = random_network(random);
+    let (source, departure) = random_start(random, &network);
+    let destination = random_junction(random, &network);
+    if random.one_in(4) {
+        damage_network(random, &mut network);
+    }
+    let mut arcs = [0; MAX_ARCS];
+    let route = reference::route(&network.lent(), source, departure, destination, &mut arcs);
+    let list = near(random, route.unwrap_or(0) as usize);
+    answers::route(&network, (source, departure), destination, list)
+}
+
+fn load(random: &mut Random) -> Result<Outcome, Difference> {
+    let (network, text) = random_damaged_town(random);
+    let (intervals, arcs) = (network.fences.len(), network.arcs());
+    let exact = TableLengths::exact(intervals, arcs);
+    let tables = match random.below(4) {
+        0 => exact,
+        1 => TableLengths::exact(intervals + 1, arcs + 9),
+        2 => TableLengths::exact(MAX_INTERVALS, MAX_ARCS),
+        _ => TableLengths {
+            fences: near(random, exact.fences),
+            tails: near(random, exact.tails),
+            heads: near(random, exact.heads),
+            lengths: near(random, exact.lengths),
+            speeds: near(random, exact.speeds),
+        },
+    };
+    answers::load(&text, tables)
+}
+
+fn name(random: &mut Random) -> Result<Outcome, Difference> {
+    let (network, text) = random_damaged_town(random);
+    answers::name(&text, random_junction(random, &network))
+}
+
+fn host_question(random: &mut Random) -> Result<Outcome, Difference> {
+    let (network, text) = random_damaged_town(random);
+    let start = random_start(random, &network);
+    let destination = random_junction(random, &network);
+    answers::host_question(&text, start, destination)
+}
+
+fn arrivals(random: &mut Random) -> Result<Outcome, Difference> {
+    let (network, text) = random_damaged_town(random);
+    let (source, departure) = random_start(random, &network);
+    let mut question = format!("QU {source} {departure}\n").into_bytes();
+    if random.one_in(8) {
+        damage_text(random, &mut question);
+    }
+    let mut input = [question, text].concat();
+    if random.one_in(8) {
+        pad(&mut input, MAX_TEXT + random.index(2));
+    }
+    answers::arrivals(&input)
+}
+
+/// A town file, damaged more often than not, and the network it came from.
+fn random_damaged_town(random: &mut Random) -> (OwnedNetwork, Vec<u8>) {
+    let (network, mut text) = random_town(random);
+    if !random.one_in(3) {
+        damage_text(random, &mut text);
+    }
+    (network, text)
+}
+
+/// A source and a departure, at times beyond their limits.
+fn random_start(random: &mut Random, network: &OwnedNetwork) -> (u32, u32) {
+    let source = random_junction(random, network);
+    let departure = if random.one_in(16) {
+        random.pick(&[DAY, DAY + 1, 9_999_999, u32::MAX])
+    } else {
+        random_departure(random, &network.fences)
+    };
+    (source, departure)
+}
+
+/// A junction, at times one that there is not.
+fn random_junction(random: &mut Random, network: &OwnedNetwork) -> u32 {
+    let junctions = network.junctions;
+    if random.one_in(16) {
+        random.pick(&[junctions, junctions + 1, 65_536, u32::MAX])
+    } else {
+        random.below(junctions)
+    }
+}
+
+/// A buffer's length: mostly as given, else shorter or longer.
+fn near(random: &mut Random, length: usize) -> usize {
+    match random.below(6) {
+        0 => 0,
+        1 => length.saturating_sub(1),
+        2 => length + 1,
+        3 => length + random.index(100),
+        _ => length,
+    }
+}

@@ -1,0 +1,266 @@
+//! Properties of the library's own answers, reckoned without the reference:
+//! tick by tick and walk by walk, as document 01 defines arrivals and labels.
+
+use super::answers::{shown, shown_arc};
+use super::{Check, Difference, Outcome};
+use crate::cabinet;
+use crate::inputs::networks::{
+    improve, random_arc, random_arc_departure, random_departure, random_network, random_towards,
+    small_network,
+};
+use crate::inputs::{OwnedNetwork, Random};
+use crate::reference::limits::{LAST_TICK, NO_ARC, UNREACHED};
+
+pub const NON_PASSING: Check = Check {
+    name: "non-passing",
+    cases: 100_000,
+    run: non_passing,
+    finds_nothing: true,
+    refuses: &[],
+};
+
+pub const ARC_BY_TICKS: Check = Check {
+    name: "arc by ticks",
+    cases: 3_000,
+    run: arc_by_ticks,
+    finds_nothing: true,
+    refuses: &[],
+};
+
+pub const LABELS_BY_WALKS: Check = Check {
+    name: "labels by walks",
+    cases: 500,
+    run: labels_by_walks,
+    finds_nothing: false,
+    refuses: &[],
+};
+
+pub const IMPROVEMENT: Check = Check {
+    name: "improvement",
+    cases: 10_000,
+    run: improvement,
+    finds_nothing: false,
+    refuses: &[],
+};
+
+/// Leaving later never arrives earlier.
+fn non_passing(random: &mut Random) -> Result<Outcome, Difference> {
+    let (length, fences, speeds) = random_arc(random);
+    let earlier = random_arc_departure(random, &fences);
+    let later = random_towards(random, earlier, LAST_TICK);
+    let arrival = |departure| {
+        let reply = cabinet::arc_arrival(departure, length, &fences, &speeds);
+        reply.expect("a good arc").unwrap_or(UNREACHED)
+    };
+    let (first, second) = (arrival(earlier), arrival(later));
+    if first > second {
+        return Err(Difference {
+            question: format!("length {length}, leaving at {earlier} and at {later}"),
+            input: shown_arc(&fences, &speeds),
+            expected: format!("an arrival not after {second}"),
+            found: format!("{first}"),
+        });
+    }
+    Ok(driven(second))
+}
+
+fn arc_by_ticks(random: &mut Random) -> Result<Outcome, Difference> {
+    let (length, fences, speeds) = random_arc(random);
+    let departure = random_arc_departure(random, &fences);
+    let expected = arrival_by_ticks(departure, length, &fences, &speeds);
+    let found = cabinet::arc_arrival(departure, length, &fences, &speeds);
+    if found != Ok(expected) {
+        return Err(Difference {
+            question: format!("length {length}, leaving at {departure}"),
+            input: shown_arc(&fences, &speeds),
+            expected: format!("{expected:?}"),
+            found: format!("{found:?}"),
+        });
+    }
+    Ok(driven(expected.unwrap_or(UNREACHED)))
+}
+
+fn driven(arrival: u32) -> Outcome {
+    match arrival {
+        UNREACHED => Outcome::Nothing,
+        _ => Outcome::Answered,
+    }
+}
+
+/// Adds up the speed of each tick until the length is covered.
+fn arrival_by_ticks(departure: u32, length: u32, fences: &[u32], speeds: &[u8]) -> Option<u32> {
+    let mut interval = 0;
+    let mut spans = 0;
+    for tick in departure..LAST_TICK {
+        while fences.get(interval + 1).is_some_and(|&next| next <= tick) {
+            interval += 1;
+        }
+        spans += u32::from(speeds[interval]);
+        if spans >= 36 * length {
+            return Some(tick + 1);
+        }
+    }
+    None
+}
+
+/// Labels, predecessors and routes against every walk of a small network.
+fn labels_by_walks(random: &mut Random) -> Result<Outcome, Difference> {
+    let network = small_network(random);
+    let source = random.below(network.junctions);
+    let departure = random_departure(random, &network.fences);
+    let walks = Walks::all(&network, source, departure);
+    let expected = (&walks.labels, &walks.predecessors(), &walks.routes());
+    let (labels, predecessors) = cabinet_labels(&network, source, departure);
+    let routes = (0..network.junctions)
+        .map(|destination| cabinet_route(&network, source, departure, destination))
+        .collect();
+    let found = (&labels, &predecessors, &routes);
+    if found != expected {
+        return Err(Difference {
+            question: format!("labels and routes from {source} at {departure}"),
+            input: shown(&network),
+            expected: format!("{expected:?}"),
+            found: format!("{found:?}"),
+        });
+    }
+    Ok(Outcome::Answered)
+}
+
+fn cabinet_labels(network: &OwnedNetwork, source: u32, departure: u32) -> (Vec<u32>, Vec<u16>) {
+    let junctions = network.junctions as usize;
+    let mut labels = vec![0; junctions];
+    let mut predecessors = vec![0; junctions];
+    let reply = cabinet::labels(
+        &network.lent(),
+        source,
+        departure,
+        &mut labels,
+        &mut predecessors,
+    );
+    reply.expect("a good network");
+    (labels, predecessors)
+}
+
+/// The route, or `None` if the destination is unreached.
+fn cabinet_route(
+    network: &OwnedNetwork,
+    source: u32,
+    departure: u32,
+    destination: u32,
+) -> Option<Vec<u16>> {
+    let mut arcs = vec![0; network.junctions as usize];
+    let reply = cabinet::route(&network.lent(), source, departure, destination, &mut arcs);
+    arcs.truncate(reply.ok()? as usize);
+    Some(arcs)
+}
+
+/// The least arrivals over all walks of at most as many arcs as junctions; a
+/// walk of more visits a junction twice, which never helps.
+struct Walks<'a> {
+    network: &'a OwnedNetwork,
+    source: usize,
+    labels: Vec<u32>,
+}
+
+impl<'a> Walks<'a> {
+    fn all(network: &'a OwnedNetwork, source: u32, departure: u32) -> Self {
+        let mut walks = Self {
+            network,
+            source: source as usize,
+            labels: vec![UNREACHED; network.junctions as usize],
+        };
+        walks.walk_on(source as usize, departure, network.junctions);
+        walks
+    }
+
+    fn walk_on(&mut self, junction: usize, tick: u32, arcs_left: u32) {
+        self.labels[junction] = self.labels[junction].min(tick);
+        if arcs_left == 0 {
+            return;
+        }
+        for arc in 0..self.network.arcs() {
+            if self.tail(arc) == junction
+                && let Some(arrival) = self.drive(arc, tick)
+            {
+                self.walk_on(self.head(arc), arrival, arcs_left - 1);
+            }
+        }
+    }
+
+    fn tail(&self, arc: usize) -> usize {
+        self.network.tails[arc].into()
+    }
+
+    fn head(&self, arc: usize) -> usize {
+        self.network.heads[arc].into()
+    }
+
+    fn drive(&self, arc: usize, departure: u32) -> Option<u32> {
+        let network = self.network.lent();
+        let speeds = network.arc_speeds(arc);
+        arrival_by_ticks(departure, network.lengths[arc], network.fences, speeds)
+    }
+
+    /// The lowest arc that attains the junction's label, if it has one.
+    fn predecessor(&self, junction: usize) -> Option<usize> {
+        let label = self.labels[junction];
+        let attains = |&arc: &usize| {
+            let tail_label = self.labels[self.tail(arc)];
+            self.head(arc) == junction
+                && tail_label != UNREACHED
+                && self.drive(arc, tail_label) == Some(label)
+        };
+        let expected = junction != self.source && label != UNREACHED;
+        expected.then(|| {
+            (0..self.network.arcs())
+                .find(attains)
+                .expect("an arc attains it")
+        })
+    }
+
+    fn predecessors(&self) -> Vec<u16> {
+        let number = |junction| self.predecessor(junction).map_or(NO_ARC, |arc| arc as u16);
+        (0..self.labels.len()).map(number).collect()
+    }
+
+    fn routes(&self) -> Vec<Option<Vec<u16>>> {
+        let route = |junction| (self.labels[junction] != UNREACHED).then(|| self.route(junction));
+        (0..self.labels.len()).map(route).collect()
+    }
+
+    fn route(&self, junction: usize) -> Vec<u16> {
+        match self.predecessor(junction) {
+            None => Vec::new(),
+            Some(arc) => {
+                let mut route = self.route(self.tail(arc));
+                route.push(arc as u16);
+                route
+            }
+        }
+    }
+}
+
+/// More junctions and arcs, shorter and faster ones and an earlier departure,
+/// all together, make no label later.
+fn improvement(random: &mut Random) -> Result<Outcome, Difference> {
+    let network = random_network(random);
+    let improved = improve(random, &network);
+    let source = random.below(network.junctions);
+    let departure = random_departure(random, &network.fences);
+    let earlier = random_towards(random, departure, 0);
+    let (labels, _) = cabinet_labels(&network, source, departure);
+    let (better, _) = cabinet_labels(&improved, source, earlier);
+    if labels
+        .iter()
+        .zip(&better)
+        .any(|(label, better)| better > label)
+    {
+        return Err(Difference {
+            question: format!("from {source} at {departure}, improved at {earlier}"),
+            input: [shown(&network), shown(&improved)].concat(),
+            expected: format!("labels not after {labels:?}"),
+            found: format!("{better:?}"),
+        });
+    }
+    Ok(Outcome::Answered)
+}

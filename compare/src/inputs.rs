@@ -1,0 +1,12 @@
+//! Networks and town files to ask about, the same on every machine.
+
+pub mod damage;
+pub mod examples;
+pub mod grids;
+pub mod networks;
+mod random;
+pub mod texts;
+pub mod towns;
+
+pub use networks::OwnedNetwork;
+pub use random::Random;

@@ -1,0 +1,7 @@
+//! Damage that makes a network or a town file most likely refused.
+
+mod networks;
+mod texts;
+
+pub use networks::{damage_fences, damage_network, replace_one};
+pub use texts::damage_text;

@@ -1,0 +1,216 @@
+//! Random networks that Network check accepts, and improved ones.
+
+use super::Random;
+use super::grids::random_grid;
+use crate::reference::Network;
+use crate::reference::limits::{
+    DAY, LAST_TICK, MAX_ARCS, MAX_INTERVALS, MAX_JUNCTIONS, MAX_LENGTH, MAX_SPEED,
+};
+
+#[derive(Clone, Debug, Default, PartialEq)]
+pub struct OwnedNetwork {
+    pub junctions: u32,
+    pub fences: Vec<u32>,
+    pub tails: Vec<u16>,
+    pub heads: Vec<u16>,
+    pub lengths: Vec<u32>,
+    pub speeds: Vec<u8>,
+}
+
+impl OwnedNetwork {
+    pub fn lent(&self) -> Network<'_> {
+        Network {
+            junctions: self.junctions,
+            fences: &self.fences,
+            tails: &self.tails,
+            heads: &self.heads,
+            lengths: &self.lengths,
+            speeds: &self.speeds,
+        }
+    }
+
+    pub fn arcs(&self) -> usize {
+        self.tails.len()
+    }
+
+    pub(super) fn insert_arc(&mut self, place: usize, arc: Arc) {
+        let first_speed = place * self.fences.len();
+        self.tails.insert(place, arc.tail);
+        self.heads.insert(place, arc.head);
+        self.lengths.insert(place, arc.length);
+        self.speeds.splice(first_speed..first_speed, arc.speeds);
+    }
+}
+
+pub(super) struct Arc {
+    pub tail: u16,
+    pub head: u16,
+    pub length: u32,
+    pub speeds: Vec<u8>,
+}
+
+/// How large the numbers of a network are. Small ones make many equal
+/// arrivals, large ones many arcs that cannot be driven.
+struct Scale {
+    length: u32,
+    speed: u32,
+    /// One speed in so many is 0.
+    standstill: u32,
+}
+
+impl Scale {
+    fn random(random: &mut Random) -> Self {
+        Self {
+            length: random.pick(&[1, 3, 50, 5_000, MAX_LENGTH]),
+            speed: random.pick(&[2, 36, 120, MAX_SPEED.into()]),
+            standstill: random.pick(&[2, 5, 1_000]),
+        }
+    }
+
+    fn length(&self, random: &mut Random) -> u32 {
+        1 + random.below(self.length)
+    }
+
+    fn speeds(&self, random: &mut Random, intervals: usize) -> Vec<u8> {
+        let speed = |_| {
+            if random.one_in(self.standstill) {
+                0
+            } else {
+                random.below(self.speed + 1) as u8
+            }
+        };
+        (0..intervals).map(speed).collect()
+    }
+
+    /// An arc between any two of at least two junctions.
+    fn arc(&self, random: &mut Random, junctions: u32, intervals: usize) -> Arc {
+        let tail = random.below(junctions);
+        let head = (tail + 1 + random.below(junctions - 1)) % junctions;
+        Arc {
+            tail: tail as u16,
+            head: head as u16,
+            length: self.length(random),
+            speeds: self.speeds(random, intervals),
+        }
+    }
+}
+
+pub fn random_network(random: &mut Random) -> OwnedNetwork {
+    if random.one_in(8) {
+        let intervals = random_intervals(random);
+        return random_grid(random, intervals);
+    }
+    let junctions = random.up_to_one_of(&[5, 40, MAX_JUNCTIONS]);
+    let intervals = random_intervals(random);
+    let arcs = random.up_to_one_of(&[8, 100, MAX_ARCS as u32]) as usize;
+    network_of(random, junctions, intervals, arcs)
+}
+
+/// A network small enough to try every walk.
+pub fn small_network(random: &mut Random) -> OwnedNetwork {
+    let junctions = 1 + random.below(5);
+    let intervals = 1 + random.index(4);
+    let arcs = random.index(9);
+    network_of(random, junctions, intervals, arcs)
+}
+
+fn network_of(random: &mut Random, junctions: u32, intervals: usize, arcs: usize) -> OwnedNetwork {
+    let mut network = OwnedNetwork {
+        junctions,
+        fences: random_fences(random, intervals),
+        ..OwnedNetwork::default()
+    };
+    add_arcs(random, &mut network, arcs);
+    network
+}
+
+/// Puts arcs between the others, if there are two junctions to join.
+fn add_arcs(random: &mut Random, network: &mut OwnedNetwork, arcs: usize) {
+    if network.junctions < 2 {
+        return;
+    }
+    let scale = Scale::random(random);
+    let intervals = network.fences.len();
+    for _ in 0..arcs {
+        let place = random.index(network.arcs() + 1);
+        network.insert_arc(place, scale.arc(random, network.junctions, intervals));
+    }
+}
+
+fn random_intervals(random: &mut Random) -> usize {
+    random.up_to_one_of(&[4, 20, MAX_INTERVALS as u32]) as usize
+}
+
+fn random_fences(random: &mut Random, intervals: usize) -> Vec<u32> {
+    let gap = random.pick(&[1, 50, 9_000]);
+    let mut fences = vec![0; intervals];
+    for interval in 1..intervals {
+        fences[interval] = fences[interval - 1] + 1 + random.below(gap);
+    }
+    if intervals > 1 && random.one_in(8) {
+        fences[intervals - 1] = DAY - 1;
+    }
+    fences
+}
+
+/// One arc's length, fences and speeds.
+pub fn random_arc(random: &mut Random) -> (u32, Vec<u32>, Vec<u8>) {
+    let intervals = random_intervals(random);
+    let scale = Scale::random(random);
+    let length = scale.length(random);
+    let fences = random_fences(random, intervals);
+    (length, fences, scale.speeds(random, intervals))
+}
+
+/// A departure below the day, often at or beside a fence.
+pub fn random_departure(random: &mut Random, fences: &[u32]) -> u32 {
+    let departure = match random.below(4) {
+        0 => random.below(100),
+        1 => random.below(DAY),
+        2 => (random.pick(fences) + random.below(3)).saturating_sub(1),
+        _ => DAY - 1 - random.below(100),
+    };
+    departure.min(DAY - 1)
+}
+
+/// A departure up to the last tick, as Arc arrival takes it.
+pub fn random_arc_departure(random: &mut Random, fences: &[u32]) -> u32 {
+    match random.below(3) {
+        0 => random.below(LAST_TICK + 1),
+        1 => LAST_TICK - random.below(2_000),
+        _ => random_departure(random, fences),
+    }
+}
+
+/// More junctions, more arcs, shorter and faster ones, all together.
+pub fn improve(random: &mut Random, network: &OwnedNetwork) -> OwnedNetwork {
+    let mut improved = network.clone();
+    improved.junctions += random.below(MAX_JUNCTIONS + 1 - network.junctions);
+    let chances = random.pick(&[1, 5, 100]);
+    for length in &mut improved.lengths {
+        if random.one_in(chances) {
+            *length = random_towards(random, *length, 1);
+        }
+    }
+    for speed in &mut improved.speeds {
+        if random.one_in(chances) {
+            *speed = random_towards(random, (*speed).into(), MAX_SPEED.into()) as u8;
+        }
+    }
+    let room = MAX_ARCS - network.arcs();
+    let arcs = random.index(room.min(40) + 1);
+    add_arcs(random, &mut improved, arcs);
+    improved
+}
+
+/// A number from the value to the bound, often near the value.
+pub fn random_towards(random: &mut Random, value: u32, bound: u32) -> u32 {
+    let room = value.abs_diff(bound);
+    let largest = random.pick(&[room, room.min(2)]);
+    let step = random.below(largest + 1);
+    if bound < value {
+        value - step
+    } else {
+        value + step
+    }
+}

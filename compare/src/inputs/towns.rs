@@ -1,0 +1,61 @@
+//! Towns of fixed size, for measuring and for tests.
+
+use super::grids::street_grid;
+use super::texts::{pad, town_text};
+use super::{OwnedNetwork, Random};
+use crate::reference::limits::{MAX_ARCS, MAX_INTERVALS, MAX_TEXT};
+
+pub struct Town {
+    pub name: &'static str,
+    pub network: OwnedNetwork,
+    /// Its town file, with every junction named. That of `full` is too long.
+    pub text: Vec<u8>,
+}
+
+/// A question from one corner of the grid to the opposite one, at 8 o'clock.
+pub const SOURCE: u32 = 0;
+pub const DEPARTURE: u32 = 8 * 36_000;
+
+impl Town {
+    pub const NAMES: [&str; 4] = ["small", "middle", "large", "full"];
+
+    pub fn named(name: &str) -> Option<Self> {
+        match name {
+            "small" => Some(Self::new("small", (5, 2), 26, 4)),
+            "middle" => Some(Self::new("middle", (10, 6), 200, 12)),
+            "large" => Some(Self::large()),
+            "full" => Some(Self::biggest("full", MAX_INTERVALS)),
+            _ => None,
+        }
+    }
+
+    /// The most junctions and arcs, with as many intervals as a text can hold.
+    fn large() -> Self {
+        let counts: Vec<usize> = (1..=MAX_INTERVALS).collect();
+        let fits = |&intervals: &usize| Self::biggest("large", intervals).text.len() <= MAX_TEXT;
+        let mut town = Self::biggest("large", counts.partition_point(fits));
+        pad(&mut town.text, MAX_TEXT);
+        town
+    }
+
+    fn biggest(name: &'static str, intervals: usize) -> Self {
+        Self::new(name, (20, 10), MAX_ARCS, intervals)
+    }
+
+    fn new(name: &'static str, grid: (u32, u32), arcs: usize, intervals: usize) -> Self {
+        let network = street_grid(&mut Random::new(1), grid, intervals, arcs);
+        let names: Vec<_> = (0..network.junctions)
+            .map(|junction| (junction, format!("Crossing {junction}")))
+            .collect();
+        Self {
+            name,
+            text: town_text(&network, &names),
+            network,
+        }
+    }
+
+    /// The corner opposite to the source.
+    pub fn destination(&self) -> u32 {
+        self.network.junctions - 1
+    }
+}

@@ -1,0 +1,42 @@
+//! One implementation of document 01 as a table of functions.
+
+use crate::reference::{Counts, LoadRefusal, Network, Refusal};
+use crate::{cabinet, reference};
+
+#[expect(clippy::type_complexity, reason = "the signatures are the operations'")]
+pub struct Operations {
+    pub network_check: fn(&Network) -> Result<(), Refusal>,
+    pub arc_arrival: fn(u32, u32, &[u32], &[u8]) -> Result<Option<u32>, Refusal>,
+    pub labels: fn(&Network, u32, u32, &mut [u32], &mut [u16]) -> Result<(), Refusal>,
+    pub route: fn(&Network, u32, u32, u32, &mut [u16]) -> Result<u32, Refusal>,
+    pub load: fn(
+        text: &[u8],
+        fences: &mut [u32],
+        tails: &mut [u16],
+        heads: &mut [u16],
+        lengths: &mut [u32],
+        speeds: &mut [u8],
+    ) -> Result<Counts, LoadRefusal>,
+    pub name: fn(&[u8], u32) -> &[u8],
+    pub host_question: fn(&[u8], u32, u32, u32) -> u32,
+}
+
+pub const REFERENCE: Operations = Operations {
+    network_check: reference::network_check,
+    arc_arrival: reference::arc_arrival,
+    labels: reference::labels,
+    route: reference::route,
+    load: reference::load,
+    name: reference::name,
+    host_question: reference::host_question,
+};
+
+pub const CABINET: Operations = Operations {
+    network_check: cabinet::network_check,
+    arc_arrival: cabinet::arc_arrival,
+    labels: cabinet::labels,
+    route: cabinet::route,
+    load: cabinet::load,
+    name: cabinet::name,
+    host_question: cabinet::host_question,
+};

@@ -1,0 +1,180 @@
+use std::cmp::Reverse;
+use std::collections::BinaryHeap;
+
+use super::arc::{drive, interval_at};
+use super::limits::{DAY, NO_ARC, UNREACHED};
+use super::{Network, Refusal, network_check};
+
+/// Writes every junction's label and predecessor.
+pub fn labels(
+    network: &Network,
+    source: u32,
+    departure: u32,
+    labels: &mut [u32],
+    predecessors: &mut [u16],
+) -> Result<(), Refusal> {
+    network_check(network)?;
+    check_start(network.junctions, source, departure)?;
+    let junctions = network.junctions as usize;
+    let exact = labels.len() == junctions && predecessors.len() == junctions;
+    Refusal::BUFFER_LENGTHS.unless(exact)?;
+    search(network, source, departure, labels, predecessors);
+    Ok(())
+}
+
+pub(super) fn check_start(junctions: u32, source: u32, departure: u32) -> Result<(), Refusal> {
+    Refusal::SOURCE.unless(source < junctions)?;
+    Refusal::DEPARTURE.unless(departure < DAY)
+}
+
+/// Labels a checked network, settling junctions in the order of their labels.
+pub(super) fn search(
+    network: &Network,
+    source: u32,
+    departure: u32,
+    labels: &mut [u32],
+    predecessors: &mut [u16],
+) {
+    let arcs_out = ArcsOut::new(network);
+    labels.fill(UNREACHED);
+    predecessors.fill(NO_ARC);
+    labels[source as usize] = departure;
+    let mut queue = BinaryHeap::from([Reverse((departure, source as u16))]);
+
+    while let Some(Reverse((tick, tail))) = queue.pop() {
+        if tick > labels[usize::from(tail)] {
+            continue; // an earlier arrival at the tail was settled before
+        }
+        let interval = interval_at(network.fences, tick);
+        for &arc in arcs_out.of(tail) {
+            let head = network.heads[arc];
+            let label = &mut labels[usize::from(head)];
+            let predecessor = &mut predecessors[usize::from(head)];
+            if *label <= tick {
+                continue; // settled before, since every arc takes a tick or more
+            }
+            let length = network.lengths[arc];
+            let speeds = network.arc_speeds(arc);
+            let Some(arrival) = drive(tick, interval, length, network.fences, speeds) else {
+                continue;
+            };
+            if arrival < *label {
+                *label = arrival;
+                *predecessor = arc as u16;
+                queue.push(Reverse((arrival, head)));
+            } else if arrival == *label {
+                // All arcs that attain the label pass here before it is settled.
+                *predecessor = (*predecessor).min(arc as u16);
+            }
+        }
+    }
+}
+
+/// The arcs out of each junction, in one list sorted by tail.
+struct ArcsOut {
+    arcs: Vec<usize>,
+    /// Where each junction's part of `arcs` starts, and the end of the last.
+    starts: Vec<usize>,
+}
+
+impl ArcsOut {
+    fn new(network: &Network) -> Self {
+        let mut starts = vec![0; network.junctions as usize + 1];
+        for &tail in network.tails {
+            starts[usize::from(tail) + 1] += 1;
+        }
+        for junction in 1..starts.len() {
+            starts[junction] += starts[junction - 1];
+        }
+        let mut next = starts.clone();
+        let mut arcs = vec![0; network.tails.len()];
+        for (arc, &tail) in network.tails.iter().enumerate() {
+            let place = &mut next[usize::from(tail)];
+            arcs[*place] = arc;
+            *place += 1;
+        }
+        Self { arcs, starts }
+    }
+
+    fn of(&self, junction: u16) -> &[usize] {
+        let junction = usize::from(junction);
+        &self.arcs[self.starts[junction]..self.starts[junction + 1]]
+    }
+}
+
+#[cfg(test)]
+mod tests {
+    use super::*;
+    use crate::inputs::examples::TOWN;
+
+    fn labelled(network: &Network, source: u32, departure: u32) -> (Vec<u32>, Vec<u16>) {
+        let junctions = network.junctions as usize;
+        let mut ticks = vec![7; junctions];
+        let mut predecessors = vec![7; junctions];
+        labels(network, source, departure, &mut ticks, &mut predecessors).expect("accepted");
+        (ticks, predecessors)
+    }
+
+    #[test]
+    fn labels_the_papers_town() {
+        let (ticks, predecessors) = labelled(&TOWN, 0, 10);
+        assert_eq!(ticks, [10, 60, 100]);
+        assert_eq!(predecessors, [NO_ARC, 0, 1]);
+    }
+
+    #[test]
+    fn marks_unreached_junctions_and_the_source() {
+        let (ticks, predecessors) = labelled(&TOWN, 1, 863_999);
+        assert_eq!(ticks, [UNREACHED, 863_999, 864_049]);
+        assert_eq!(predecessors, [NO_ARC, NO_ARC, 2]);
+    }
+
+    #[test]
+    fn takes_the_lowest_of_equal_arcs() {
+        // Arcs 1 and 2 both attain tick 2 at junction 2; arc 0 is slower.
+        let network = Network {
+            junctions: 3,
+            fences: &[0],
+            tails: &[0, 1, 0, 0],
+            heads: &[2, 2, 2, 1],
+            lengths: &[3, 1, 2, 1],
+            speeds: &[36, 36, 36, 36],
+        };
+        let (ticks, predecessors) = labelled(&network, 0, 0);
+        assert_eq!(ticks, [0, 1, 2]);
+        assert_eq!(predecessors, [NO_ARC, 3, 1]);
+    }
+
+    #[test]
+    fn drives_no_arc_out_of_an_unreached_tail() {
+        let network = Network {
+            speeds: &[0, 0, 0, 0, 36, 36],
+            ..TOWN
+        };
+        let (ticks, predecessors) = labelled(&network, 0, 0);
+        assert_eq!(ticks, [0, UNREACHED, UNREACHED]);
+        assert_eq!(predecessors, [NO_ARC; 3]);
+    }
+
+    #[test]
+    fn refuses_in_the_papers_order_and_changes_nothing() {
+        let bad = Network {
+            speeds: &[36, 18, 40, 20, 36, 201],
+            ..TOWN
+        };
+        for (network, source, departure, lengths, number) in [
+            (&bad, 3, 864_000, (2, 2), 8),
+            (&TOWN, 3, 864_000, (2, 2), 9),
+            (&TOWN, 2, 864_000, (2, 2), 10),
+            (&TOWN, 2, 863_999, (2, 3), 11),
+            (&TOWN, 2, 863_999, (3, 4), 11),
+        ] {
+            let mut ticks = vec![7; lengths.0];
+            let mut predecessors = vec![7; lengths.1];
+            let reply = labels(network, source, departure, &mut ticks, &mut predecessors);
+            assert_eq!(reply.unwrap_err().0, number);
+            assert!(ticks.iter().all(|&tick| tick == 7));
+            assert!(predecessors.iter().all(|&arc| arc == 7));
+        }
+    }
+}

@@ -1,0 +1,31 @@
+//! The constants of document 01.
+
+/// Ticks in a day; fences and departures of a question lie below it.
+pub const DAY: u32 = 864_000;
+/// The last tick at which an arrival counts.
+pub const LAST_TICK: u32 = 1_728_000;
+
+pub const SPANS_PER_METRE: u32 = 36;
+
+pub const MAX_JUNCTIONS: u32 = 200;
+pub const MAX_INTERVALS: usize = 96;
+pub const MAX_ARCS: usize = 640;
+/// In metres.
+pub const MAX_LENGTH: u32 = 100_000;
+/// In km/h, which is spans per tick.
+pub const MAX_SPEED: u8 = 200;
+
+/// In bytes.
+pub const MAX_TEXT: usize = 65_536;
+/// In bytes before the line feed.
+pub const MAX_LINE: usize = 700;
+/// The largest number that one more digit may follow.
+pub const SIX_DIGITS: u32 = 999_999;
+pub const MAX_NAME: usize = 24;
+
+/// The label of an unreached junction.
+pub const UNREACHED: u32 = 4_294_967_295;
+/// The predecessor of the source and of an unreached junction.
+pub const NO_ARC: u16 = 65_535;
+/// A refusal's number is added to this where one `u32` holds answer or refusal.
+pub const REFUSED: u32 = 4_294_900_000;

@@ -1,0 +1,110 @@
+use super::labels::{check_start, search};
+use super::limits::{NO_ARC, UNREACHED};
+use super::{Network, Refusal, network_check};
+
+/// Writes the route's arcs in driving order and returns their count.
+pub fn route(
+    network: &Network,
+    source: u32,
+    departure: u32,
+    destination: u32,
+    arcs: &mut [u16],
+) -> Result<u32, Refusal> {
+    network_check(network)?;
+    let reached = reach(network, source, departure, destination)?;
+    let route = reached.route(network);
+    let list = arcs.get_mut(..route.len()).ok_or(Refusal::LIST_TOO_SHORT)?;
+    list.copy_from_slice(&route);
+    Ok(route.len() as u32)
+}
+
+/// A reached destination.
+pub(super) struct Reached {
+    pub label: u32,
+    destination: usize,
+    predecessors: Vec<u16>,
+}
+
+impl Reached {
+    /// Follows the predecessors back from the destination to the source.
+    fn route(&self, network: &Network) -> Vec<u16> {
+        let mut route = Vec::new();
+        let mut junction = self.destination;
+        while self.predecessors[junction] != NO_ARC {
+            let arc = self.predecessors[junction];
+            route.push(arc);
+            junction = usize::from(network.tails[usize::from(arc)]);
+        }
+        route.reverse();
+        route
+    }
+}
+
+/// Labels a checked network for one question, with refusals 9 to 13.
+pub(super) fn reach(
+    network: &Network,
+    source: u32,
+    departure: u32,
+    destination: u32,
+) -> Result<Reached, Refusal> {
+    check_start(network.junctions, source, departure)?;
+    Refusal::DESTINATION.unless(destination < network.junctions)?;
+    let destination = destination as usize;
+    let mut labels = vec![UNREACHED; network.junctions as usize];
+    let mut predecessors = vec![NO_ARC; network.junctions as usize];
+    search(network, source, departure, &mut labels, &mut predecessors);
+    let label = labels[destination];
+    Refusal::UNREACHED.unless(label != UNREACHED)?;
+    Ok(Reached {
+        label,
+        destination,
+        predecessors,
+    })
+}
+
+#[cfg(test)]
+mod tests {
+    use super::*;
+    use crate::inputs::examples::TOWN;
+
+    fn found(source: u32, departure: u32, destination: u32) -> (u32, Vec<u16>) {
+        let reached = reach(&TOWN, source, departure, destination).expect("reached");
+        let mut arcs = [7; 3];
+        let count = route(&TOWN, source, departure, destination, &mut arcs).expect("accepted");
+        let (arcs, behind) = arcs.split_at(count as usize);
+        assert!(behind.iter().all(|&arc| arc == 7));
+        (reached.label, arcs.to_vec())
+    }
+
+    #[test]
+    fn follows_predecessors() {
+        assert_eq!(found(0, 10, 2), (100, vec![1]));
+        assert_eq!(found(0, 100, 2), (250, vec![0, 2]));
+    }
+
+    #[test]
+    fn goes_from_the_source_to_itself_by_no_arc() {
+        assert_eq!(found(2, 863_999, 2), (863_999, vec![]));
+    }
+
+    #[test]
+    fn refuses_in_the_papers_order_and_changes_nothing() {
+        let bad = Network {
+            junctions: 2,
+            ..TOWN
+        };
+        for (network, source, departure, destination, number) in [
+            (&bad, 3, 864_000, 3, 6),
+            (&TOWN, 3, 864_000, 3, 9),
+            (&TOWN, 0, 864_000, 3, 10),
+            (&TOWN, 2, 100, 3, 12),
+            (&TOWN, 2, 100, 0, 13),
+            (&TOWN, 0, 100, 2, 14),
+        ] {
+            let mut arcs = [7; 1];
+            let reply = route(network, source, departure, destination, &mut arcs);
+            assert_eq!(reply.unwrap_err().0, number);
+            assert_eq!(arcs, [7; 1]);
+        }
+    }
+}

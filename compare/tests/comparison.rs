@@ -1,0 +1,75 @@
+//! The library against the reference, and its properties, from fixed seeds.
+
+use compare::comparison::{Check, Tally, cases, properties};
+
+/// Runs a check's cases; each outcome that it can have must occur.
+fn run(check: &Check) {
+    let mut tally = Tally::default();
+    for seed in 0..check.cases {
+        if let Err(difference) = check.run_case(seed, &mut tally) {
+            panic!("{}, seed {seed}: {difference}", check.name);
+        }
+    }
+    println!("{}\n{tally}", check.name);
+    assert_eq!(check.missing(&tally), [], "outcomes that never occurred");
+}
+
+#[test]
+fn network_check() {
+    run(&cases::NETWORK_CHECK);
+}
+
+#[test]
+fn arc_arrival() {
+    run(&cases::ARC_ARRIVAL);
+}
+
+#[test]
+fn labels() {
+    run(&cases::LABELS);
+}
+
+#[test]
+fn route() {
+    run(&cases::ROUTE);
+}
+
+#[test]
+fn load() {
+    run(&cases::LOAD);
+}
+
+#[test]
+fn name() {
+    run(&cases::NAME);
+}
+
+#[test]
+fn host_question() {
+    run(&cases::HOST_QUESTION);
+}
+
+#[test]
+fn arrivals() {
+    run(&cases::ARRIVALS);
+}
+
+#[test]
+fn non_passing() {
+    run(&properties::NON_PASSING);
+}
+
+#[test]
+fn arc_by_ticks() {
+    run(&properties::ARC_BY_TICKS);
+}
+
+#[test]
+fn labels_by_walks() {
+    run(&properties::LABELS_BY_WALKS);
+}
+
+#[test]
+fn improvement() {
+    run(&properties::IMPROVEMENT);
+}

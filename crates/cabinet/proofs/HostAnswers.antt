@@ -22,8 +22,8 @@ use Rattle.model.proofs.Demands.{demand-2}
 use Rattle.model.proofs.NetworkRules.{accepts-when-kept}
 use Rattle.model.proofs.Rules.{refused-exactly-when, replies-kept, kept-before}
 use Rattle.checking.specs.Question.{startRules}
-use Rattle.reckoning.specs.Route.{Routable, destinationRules, foundRules, routeAnswer}
-use Rattle.reckoning.proofs.RouteRules.{route-replies-when-routable, room-for-every-route}
+use Rattle.routing.specs.Route.{Routable, destinationRules, foundRules, routeAnswer}
+use Rattle.routing.proofs.RouteRules.{route-replies-when-routable, room-for-every-route}
 use Rattle.townfile.specs.FirstFault as fault
 use Rattle.townfile.specs.FirstFault.{Reading, refusedAt, accepted, atEnd, linesFrom, onward, firstFault}
 use Rattle.townfile.specs.Bytes.{lineFeed, pieces}

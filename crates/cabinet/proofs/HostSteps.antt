@@ -6,7 +6,7 @@ use mathlib.Core.Option.{Option, some}
 use Rattle.model.specs.Network.{Network}
 use Rattle.model.specs.Refusals.{refusalBase}
 use Rattle.model.specs.Rules.{Outcome, refused, replied}
-use Rattle.reckoning.specs.Route.{routeAnswer, routeArrival}
+use Rattle.routing.specs.Route.{routeAnswer, routeArrival}
 use Rattle.townfile.specs.FirstFault.{Reading, refusedAt, accepted}
 use Rattle.townfile.specs.Grammar.{networkOf}
 use Rattle.townfile.specs.Tables.{townOf}

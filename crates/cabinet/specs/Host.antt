@@ -13,7 +13,7 @@ use Rattle.model.specs.Walks.{Net, Arrives, ArrivesWaiting}
 use Rattle.model.specs.Demands.{label}
 use Rattle.model.specs.Refusals.{refusalBase}
 use Rattle.model.specs.Rules.{Outcome, refused, replied}
-use Rattle.reckoning.specs.Route.{routeAnswer}
+use Rattle.routing.specs.Route.{routeAnswer}
 use Rattle.townfile.specs.FirstFault.{Reading, refusedAt, accepted}
 use Rattle.townfile.specs.Grammar.{Bytes, Town, Describes, networkOf}
 use Rattle.townfile.specs.Tables.{townOf}

@@ -4,7 +4,7 @@ ghost use Prim.Native.Nat.{_+_};
 ghost use Rattle.model.specs.Refusals.{refusalBase};
 ghost use Rattle.townfile.specs.Load.{counts, tables, LongEnough, networkAt};
 ghost use Rattle.loading.specs.Loads.{readingOf};
-ghost use Rattle.reckoning.specs.Route.{outcomeOf, arrivalOf, routeAnswer, routeArrival};
+ghost use Rattle.routing.specs.Route.{outcomeOf, arrivalOf, routeAnswer, routeArrival};
 ghost use Rattle.cabinet.specs.Host.{loadNumber, routeNumber, hostAnswer};
 use loading::load::Loaded;
 use loading::load::load;
@@ -13,8 +13,8 @@ use model::limit::MAX_INTERVALS;
 use model::limit::MAX_JUNCTIONS;
 use model::refusal::Refusal;
 use model::tick::Tick;
-use reckoning::route::Routed;
-use reckoning::route::route;
+use routing::route::Routed;
+use routing::route::route;
 
 const MAX_SPEEDS: usize = MAX_ARCS * MAX_INTERVALS;
 

@@ -4,7 +4,7 @@ ghost use Rattle.model.specs.Network.{network};
 ghost use Rattle.model.specs.NetworkRules.{networkCheck};
 ghost use Rattle.driving.specs.ArcArrival.{arcArrival};
 ghost use Rattle.reckoning.specs.Labels.{labelsAnswer, labelsAfter, predecessorsAfter};
-ghost use Rattle.reckoning.specs.Route.{routeAnswer, arcsAfter};
+ghost use Rattle.routing.specs.Route.{routeAnswer, arcsAfter};
 ghost use Rattle.exports.specs.Codes.{numberOr0, arrivalCode, countCode};
 use checking::network::NetworkCheck;
 use checking::network::network_check;
@@ -13,8 +13,8 @@ use driving::arc::arc_arrival;
 use model::label::UNREACHED;
 use model::tick::Tick;
 use reckoning::labels::Labelled;
-use reckoning::route::Routed;
-use reckoning::route::route;
+use routing::route::Routed;
+use routing::route::route;
 
 // 0, or the refusal's number.
 #[no_mangle]

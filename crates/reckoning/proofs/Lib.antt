@@ -1,10 +1,8 @@
 pub mod Filled
-pub mod Following
 pub mod LabelRules
 pub mod Linking
 pub mod Matches
 pub mod Offered
 pub mod Queue
-pub mod RouteRules
 pub mod Settling
 pub mod Turns

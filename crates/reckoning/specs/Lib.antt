@@ -1,5 +1,3 @@
-pub mod Following
 pub mod Labelling
 pub mod Labels
-pub mod Route
 pub mod Tournament

@@ -1,6 +1,5 @@
-// The operations on a network that lies in lent tables. Each refuses with the first rule that is broken, in the order of
-// the numbers, and otherwise replies; none asks anything of its caller.
+// Labels, on a network that lies in lent tables: the labelling, and the operation that refuses with the first rule that is broken, in
+// the order of the numbers, and otherwise labels. It asks nothing of its caller.
 mod labelling;
 pub mod labels;
-pub mod route;
 mod tournament;

@@ -7,8 +7,8 @@ use libc::STDOUT_FILENO;
 use model::tick::Tick;
 use reckoning::labels::Labelled;
 use reckoning::labels::labels;
-use reckoning::route::Routed;
-use reckoning::route::route;
+use routing::route::Routed;
+use routing::route::route;
 
 fn print_arc(answer: ArcArrival) {
     match answer {

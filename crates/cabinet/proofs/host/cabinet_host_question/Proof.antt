@@ -7,7 +7,7 @@ use denote.Ref.{now}
 use Rattle.model.specs.Network.{Network}
 use Rattle.model.specs.Rules.{Outcome}
 use Rattle.loading.specs.Loads.{readingOf}
-use Rattle.reckoning.specs.Route.{outcomeOf, arrivalOf, routeAnswer, routeArrival}
+use Rattle.routing.specs.Route.{outcomeOf, arrivalOf, routeAnswer, routeArrival}
 use Rattle.townfile.specs.FirstFault.{accepted}
 use Rattle.townfile.specs.Grammar.{Bytes, networkOf}
 use Rattle.townfile.specs.Tables.{townOf}

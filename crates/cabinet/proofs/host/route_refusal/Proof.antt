@@ -3,7 +3,7 @@ use borrow.Author.Needs.{needs}
 use Prim.Native.Nat.{_+_}
 use mathlib.Core.Path.{sym, ap, _∙_}
 use Rattle.model.specs.Refusals.{refusalBase}
-use Rattle.reckoning.specs.Route.{outcomeOf}
+use Rattle.routing.specs.Route.{outcomeOf}
 use Rattle.cabinet.specs.Host.{routeNumber}
 use Rattle.cabinet.proofs.host.route_refusal.Statement.{statement}
 use Rattle.cabinet.proofs.host.route_refusal.Tie as tie

@@ -1,7 +1,7 @@
 -- `network::exports_route`: the code of what Route answers; the list is Route's own.
 use borrow.Author.Needs.{needs}
 use mathlib.Core.Path.{sym, ap, _∙_}
-use Rattle.reckoning.specs.Route.{outcomeOf}
+use Rattle.routing.specs.Route.{outcomeOf}
 use Rattle.exports.specs.Codes.{countCode}
 use Rattle.exports.proofs.network.exports_route.Statement.{statement}
 use Rattle.exports.proofs.network.exports_route.Tie as tie

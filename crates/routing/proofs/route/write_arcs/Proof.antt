@@ -6,10 +6,10 @@ use native.Mathlib.Omega.{arith}
 use lib.ListN.{length-reverse}
 use mir.Facts.{fits-widen}
 use denote.Ref.{now}
-use Rattle.reckoning.specs.Following.{backFrom}
-use Rattle.reckoning.proofs.Following.{Writing, writing-starts, writing-step, writing-goes-on, writing-ends}
-use Rattle.reckoning.proofs.route.write_arcs.Statement.{statement}
-use Rattle.reckoning.proofs.route.write_arcs.Tie as tie
+use Rattle.routing.specs.Following.{backFrom}
+use Rattle.routing.proofs.Following.{Writing, writing-starts, writing-step, writing-goes-on, writing-ends}
+use Rattle.routing.proofs.route.write_arcs.Statement.{statement}
+use Rattle.routing.proofs.route.write_arcs.Tie as tie
 
 abbrev Inv-loop : tie.InvT-loop
 Inv-loop tails predecessors source destination count arcs₀ junction₀ k₀ arcs junction k = Writing tails source predecessors (reverse (backFrom tails source predecessors destination)) arcs₀ arcs count junction k

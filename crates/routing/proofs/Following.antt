@@ -10,7 +10,7 @@ use lib.ListN.{length, getD, set, take, drop, take-append-drop, length-set}
 use lib.Seq.{take-suc, set-at, length-take-le}
 use Rattle.model.specs.Labels.{noArc}
 use Rattle.model.specs.Routes.{arcsBack}
-use Rattle.reckoning.specs.Following.{Leads, here, back}
+use Rattle.routing.specs.Following.{backFrom, Leads, here, back}
 use Rattle.model.specs.Rules.{written}
 
 -- No more arcs are found than are allowed.
@@ -18,12 +18,15 @@ at-most : (at : Bool) (a : ℕ) (before : List ℕ) (most : ℕ) → length befo
 at-most true a before most h = zero-le
 at-most false a before most h = suc-le-suc h
 
-pub arcs-back-at-most : (tail : ℕ → ℕ) (source : ℕ) (predecessors : List ℕ) (most j : ℕ) → length (arcsBack tail source predecessors most j) ≤ most
+arcs-back-at-most : (tail : ℕ → ℕ) (source : ℕ) (predecessors : List ℕ) (most j : ℕ) → length (arcsBack tail source predecessors most j) ≤ most
 unfolding arcsBack
 arcs-back-at-most tail source predecessors zero j = zero-le
 arcs-back-at-most tail source predecessors (suc most) j =
     at-most (eqb j source) (getD predecessors j noArc) (arcsBack tail source predecessors most (tail (getD predecessors j noArc))) most
     (arcs-back-at-most tail source predecessors most (tail (getD predecessors j noArc)))
+
+pub way-at-most : (tails : List ℕ) (source : ℕ) (predecessors : List ℕ) (j : ℕ) → length (backFrom tails source predecessors j) ≤ length predecessors
+way-at-most tails source predecessors j = arcs-back-at-most (λ a. getD tails a 0) source predecessors (length predecessors) j
 
 -- ---- One arc back
 

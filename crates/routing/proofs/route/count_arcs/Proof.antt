@@ -1,13 +1,13 @@
 -- `route::count_arcs` counts the arcs of the way back: at each turn those counted and those left add up to all (`Counting`).
 use Prim.Native.Nat.{_-_, _<_}
 use native.Mathlib.Omega.{arith}
-use lib.ListN.{length, getD}
+use lib.ListN.{length}
 use mir.Facts.{fits-widen}
 use denote.Ref.{now}
-use Rattle.reckoning.specs.Following.{backFrom}
-use Rattle.reckoning.proofs.Following.{arcs-back-at-most, Counting, counting-starts, counting-step, counting-more, counting-goes-on, counting-ends}
-use Rattle.reckoning.proofs.route.count_arcs.Statement.{statement}
-use Rattle.reckoning.proofs.route.count_arcs.Tie as tie
+use Rattle.routing.specs.Following.{backFrom}
+use Rattle.routing.proofs.Following.{way-at-most, Counting, counting-starts, counting-step, counting-more, counting-goes-on, counting-ends}
+use Rattle.routing.proofs.route.count_arcs.Statement.{statement}
+use Rattle.routing.proofs.route.count_arcs.Tie as tie
 
 abbrev Inv-loop : tie.InvT-loop
 Inv-loop tails predecessors source destination junction₀ count₀ junction count = Counting tails source predecessors (length (backFrom tails source predecessors destination)) junction count
@@ -16,7 +16,7 @@ abbrev μ-loop : tie.MeasureT-loop
 μ-loop tails predecessors source destination junction₀ count₀ junction count = length (backFrom tails source predecessors destination) - count
 
 more : (c : tie.In-loop Inv-loop μ-loop) → c .before .loop .count < length (now (c .before .before .args .predecessors))
-more c = omega (arith, counting-more (c .before .loop .inv) (c .loop-test .taken), arcs-back-at-most (λ a. getD (now (c .before .before .args .tails)) a 0) (c .before .before .args .source) (now (c .before .before .args .predecessors)) (length (now (c .before .before .args .predecessors))) (c .before .before .args .destination))
+more c = omega (arith, counting-more (c .before .loop .inv) (c .loop-test .taken), way-at-most (now (c .before .before .args .tails)) (c .before .before .args .source) (now (c .before .before .args .predecessors)) (c .before .before .args .destination))
 
 loop-holds : tie.Need-loop-holds Inv-loop μ-loop
 loop-holds c = counting-starts (c .pre)

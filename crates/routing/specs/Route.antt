@@ -16,8 +16,8 @@ use Rattle.model.specs.Routes.{routeOf, Driven}
 use Rattle.model.specs.Refusals.{numberOf}
 use Rattle.model.specs.Rules.{Outcome, refused, replied, Rule, _if_, firstBroken, after, written}
 use Rattle.checking.specs.Question.{questionRules}
-use Rattle.reckoning.specs.declared.route.Routed.{Routed}
-use Rattle.reckoning.specs.declared.route.Routed.the-variants.{Arcs, Refused}
+use Rattle.routing.specs.declared.route.Routed.{Routed}
+use Rattle.routing.specs.declared.route.Routed.the-variants.{Arcs, Refused}
 
 -- The answer's number and value.
 abbrev pub outcomeOf : Routed → Outcome ℕ

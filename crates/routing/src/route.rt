@@ -1,21 +1,20 @@
 // Route: the arcs by which the destination is reached at its label.
 ghost use mathlib.Core.Path.{_≡_};
-ghost use Prim.Native.Nat.{_≤_, _<_};
+ghost use Prim.Native.Nat.{_≤_};
 ghost use lib.ListN.{length};
 ghost use mathlib.Core.List.{reverse};
+ghost use Rattle.model.specs.Limits.{maxJunctions};
 ghost use Rattle.model.specs.Network.{network};
 ghost use Rattle.model.specs.Rules.{written};
-ghost use Rattle.reckoning.specs.Following.{backFrom, Leads, foundAnswer, foundArrival, foundAfter};
-ghost use Rattle.reckoning.specs.Labelling.{Labelable};
-ghost use Rattle.reckoning.specs.Route.{outcomeOf, arrivalOf, routeAnswer, routeArrival, arcsAfter};
-use crate::labelling::label_all;
-use checking::network::NetworkCheck;
-use checking::question::question_check;
+ghost use Rattle.routing.specs.Following.{backFrom, Leads, Reached, Follows};
+ghost use Rattle.routing.specs.Route.{outcomeOf, arrivalOf, routeAnswer, routeArrival, arcsAfter};
 use model::label::NO_ARC;
 use model::label::UNREACHED;
 use model::limit::MAX_JUNCTIONS;
 use model::refusal::Refusal;
 use model::tick::Tick;
+use reckoning::labels::Labelled;
+use reckoning::labels::labels;
 
 pub enum Routed {
     // The number of arcs, and the destination's label.
@@ -62,55 +61,41 @@ fn write_arcs(
     }
 }
 
-// The route of a question that is taken, with the labels and predecessors reckoned in lent tables.
-fn reckon_route(
-    junctions: usize,
-    fences: &[u32],
+// Looks the destination up in the tables, which have an entry for each junction: its label, and the arcs back to the source.
+fn follow(
     tails: &[u16],
-    heads: &[u16],
-    lengths: &[u32],
-    speeds: &[u8],
-    source: usize,
-    tick: u32,
-    destination: usize,
-    labels: &mut [u32],
-    predecessors: &mut [u16],
+    labels: &[u32],
+    predecessors: &[u16],
+    source: u32,
+    destination: u32,
     arcs: &mut [u16],
 ) -> Routed
-    requires { ⌜ Labelable (network junctions (now fences) (now tails) (now heads) (now lengths) (now speeds)) source tick (now labels) (now predecessors) ⌝ }
-    requires { ⌜ destination < junctions ⌝ }
-    ensures answer { λ r. ⌜ outcomeOf r ≡ foundAnswer (network junctions (now (fences .entry)) (now (tails .entry)) (now (heads .entry)) (now (lengths .entry)) (now (speeds .entry))) source tick destination (now (arcs .entry)) ⌝ }
-    ensures arrival { λ r. ⌜ arrivalOf r ≡ foundArrival (network junctions (now (fences .entry)) (now (tails .entry)) (now (heads .entry)) (now (lengths .entry)) (now (speeds .entry))) source tick destination (now (arcs .entry)) ⌝ }
-    ensures arcs { λ _. ⌜ now (arcs .exit) ≡ foundAfter (network junctions (now (fences .entry)) (now (tails .entry)) (now (heads .entry)) (now (lengths .entry)) (now (speeds .entry))) source tick destination (now (arcs .entry)) ⌝ }
+    requires { ⌜ length (now predecessors) ≤ maxJunctions ⌝ }
+    requires { ⌜ (Reached (now labels) destination → Leads (now tails) source (now predecessors) destination (backFrom (now tails) source (now predecessors) destination)) ⌝ }
+    ensures { λ r. ⌜ Follows (now (labels .entry)) destination (backFrom (now (tails .entry)) source (now (predecessors .entry)) destination) (now (arcs .entry)) r (now (arcs .exit)) ⌝ }
 {
-    label_all(
-        junctions,
-        fences,
-        tails,
-        heads,
-        lengths,
-        speeds,
-        source,
-        tick,
-        labels,
-        predecessors,
-    );
-    let arrival = labels[destination];
+    let from = source as usize;
+    let to = destination as usize;
+    if labels.len() <= to {
+        return Routed::Refused(Refusal::Destination);
+    }
+    let arrival = labels[to];
     if arrival == UNREACHED {
         return Routed::Refused(Refusal::Unreached);
     }
-    let count = count_arcs(tails, predecessors, source, destination);
+    let count = count_arcs(tails, predecessors, from, to);
     if arcs.len() < count {
         return Routed::Refused(Refusal::ArcListLength);
     }
-    write_arcs(tails, predecessors, source, destination, count, arcs);
+    write_arcs(tails, predecessors, from, to, count, arcs);
     Routed::Arcs {
         count: count as u32,
         arrival,
     }
 }
 
-// The labels are reckoned once, into tables of the function's own.
+// The labels are reckoned once, into tables of the function's own. These have room for as many junctions as a network may have; a
+// greater count is refused by the first rule.
 pub fn route(
     junctions: u32,
     fences: &[u32],
@@ -127,8 +112,13 @@ pub fn route(
     ensures arrival { λ r. ⌜ arrivalOf r ≡ routeArrival (network junctions (now (fences .entry)) (now (tails .entry)) (now (heads .entry)) (now (lengths .entry)) (now (speeds .entry))) source (departure .number) destination (now (arcs .entry)) ⌝ }
     ensures arcs { λ _. ⌜ now (arcs .exit) ≡ arcsAfter (network junctions (now (fences .entry)) (now (tails .entry)) (now (heads .entry)) (now (lengths .entry)) (now (speeds .entry))) source (departure .number) destination (now (arcs .entry)) ⌝ }
 {
-    let tick = departure.number;
-    if let NetworkCheck::Refused(refusal) = question_check(
+    let n = junctions as usize;
+    if MAX_JUNCTIONS < n {
+        return Routed::Refused(Refusal::JunctionCount);
+    }
+    let mut earliest = [UNREACHED; MAX_JUNCTIONS];
+    let mut predecessors = [NO_ARC; MAX_JUNCTIONS];
+    if let Labelled::Refused(refusal) = labels(
         junctions,
         fences,
         tails,
@@ -136,28 +126,18 @@ pub fn route(
         lengths,
         speeds,
         source,
-        tick,
+        departure,
+        &mut earliest[..n],
+        &mut predecessors[..n],
     ) {
         return Routed::Refused(refusal);
     }
-    if junctions <= destination {
-        return Routed::Refused(Refusal::Destination);
-    }
-    let n = junctions as usize;
-    let mut labels = [UNREACHED; MAX_JUNCTIONS];
-    let mut predecessors = [NO_ARC; MAX_JUNCTIONS];
-    reckon_route(
-        n,
-        fences,
+    follow(
         tails,
-        heads,
-        lengths,
-        speeds,
-        source as usize,
-        tick,
-        destination as usize,
-        &mut labels[..n],
-        &mut predecessors[..n],
+        &earliest[..n],
+        &predecessors[..n],
+        source,
+        destination,
         arcs,
     )
 }

@@ -1,0 +1,90 @@
+-- Route's rules: where one is broken the call is refused; where none is, the plain conditions hold, and the demand holds of the list
+-- that the call leaves.
+use Prim.Native.Nat.{ℕ, _≤_, _<_}
+use mathlib.Core.Path.{_≡_, sym, ap, _∙_}
+use mathlib.Core.List.{List, _++_}
+use native.Mathlib.Omega.{arith}
+use lib.Dec.{ltb}
+use lib.ListN.{length, drop}
+use lib.Seq.{take-append-seam}
+use borrow.Author.Tests.{not-false, ltb-true, ltb-false, eqb-false, lt-ltb, le-ltb, ne-eqb}
+use Rattle.model.specs.Ticks.{never}
+use Rattle.model.specs.Network.{Network, netOf}
+use Rattle.model.specs.Demands.{label}
+use Rattle.model.specs.Routes.{routeOf}
+use Rattle.model.specs.Rules.{replied, Rule, firstBroken, AllKept}
+use Rattle.model.proofs.Routes.{demand-2-of-route}
+use Rattle.model.proofs.Rules.{kept-replies, replies-kept, kept-before, kept-append}
+use Rattle.checking.specs.Question.{questionRules}
+use Rattle.checking.proofs.QuestionRules.{kept-taken, taken-kept}
+use Rattle.routing.specs.Route.{destinationRules, foundRules, routeAnswer, Routable, RouteRepliesWhenRoutable, Demand2OfRouteCall, RoomForEveryRoute}
+
+module _ (N : Network) (source departure destination : ℕ) (arcs : List ℕ) where
+  abbrev pub route : List ℕ
+  route = routeOf (netOf N) source departure destination
+
+  abbrev question : List Rule
+  question = questionRules N source departure
+
+  -- The rules after those of the question: 12 to 14.
+  abbrev pub own : List Rule
+  own = destinationRules N destination ++ foundRules N source departure destination arcs
+
+  -- Where the question is taken they decide.
+  pub own-decides : AllKept question → routeAnswer N source departure destination arcs ≡ firstBroken own (length route)
+  unfolding routeAnswer
+  own-decides taken = kept-before question own (length route) taken
+
+  kept-routable : AllKept question → AllKept own → Routable N source departure destination arcs
+  kept-routable taken kept =
+      let t = kept-taken N source departure taken in
+      record {
+        accepted = t .accepted;
+        source-below = t .source-below;
+        departure-below = t .departure-below;
+        destination-below = ltb-true destination (N .junctions) (not-false (ltb destination (N .junctions)) (kept .0));
+        reached = eqb-false (label N source departure destination) never (kept .1 .0);
+        long-enough = λ h. omega (arith, ltb-false (length arcs) (length route) (kept .1 .1 .0));
+      }
+
+  answered : (count : ℕ) → routeAnswer N source departure destination arcs ≡ replied count → Routable N source departure destination arcs × (count ≡ length route)
+  unfolding routeAnswer
+  answered count e =
+      let all = replies-kept (question ++ own) (length route) count e in
+      let parts = kept-append question own all in
+      let answer = kept-replies (question ++ own) (length route) all in
+      (kept-routable (parts .0) (parts .1), cc)
+
+  pub replies : AllKept question → destination < N .junctions → (label N source departure destination ≡ never → ⊥) → length route ≤ length arcs →
+      routeAnswer N source departure destination arcs ≡ replied (length route)
+  unfolding firstBroken
+  replies taken below reached room =
+      own-decides taken
+      ∙ rw (lt-ltb destination (N .junctions) below, ne-eqb (label N source departure destination) never reached, le-ltb (length arcs) (length route) room)
+
+  routable-replies : Routable N source departure destination arcs → routeAnswer N source departure destination arcs ≡ replied (length route)
+  routable-replies r =
+      replies (taken-kept N source departure (record { accepted = r .accepted; source-below = r .source-below; departure-below = r .departure-below }))
+      (r .destination-below) (r .reached) (omega (arith, r .long-enough))
+
+-- ---- The statements
+
+pub route-replies-when-routable : RouteRepliesWhenRoutable
+route-replies-when-routable N source departure destination arcs count = (
+  answered N source departure destination arcs count,
+  (λ h. routable-replies N source departure destination arcs (h .0) ∙ ap replied (sym (h .1))),
+)
+
+pub demand-2-of-route-call : Demand2OfRouteCall
+demand-2-of-route-call N source departure destination arcs count e =
+    let a = answered N source departure destination arcs count e in
+    let r = a .0 in
+    let d = demand-2-of-route N (r .accepted) source departure (r .source-below) (r .departure-below) destination (r .destination-below) (r .reached) in
+    (rw (e, a .1, take-append-seam (route N source departure destination arcs) (drop (length (route N source departure destination arcs)) arcs)) (d .0), omega (arith, d .1, a .1))
+
+pub room-for-every-route : RoomForEveryRoute
+room-for-every-route N source departure destination arcs accepted source-below departure-below destination-below reached room =
+    let d = demand-2-of-route N accepted source departure source-below departure-below destination destination-below reached in
+    replies N source departure destination arcs
+    (taken-kept N source departure (record { accepted = accepted; source-below = source-below; departure-below = departure-below }))
+    destination-below reached (omega (arith, d .1, accepted .junctions-fit))

@@ -1,0 +1,135 @@
+-- The tables that Labels leaves to Route: where it refuses, Route refuses alike; where it writes, the predecessors lead back to the
+-- source, and what following them comes to is what Route's own rules say.
+use Prim.Native.Nat.{ℕ, _≤_, _<_}
+use mathlib.Core.Path.{_≡_, refl, sym, ap, _∙_}
+use mathlib.Core.List.{List, reverse}
+use mathlib.Core.Option.{Option, none}
+use native.Mathlib.Omega.{arith}
+use lib.ListN.{length, getD, length-reverse}
+use borrow.Author.Tests.{lt-ltb, le-ltb, eq-eqb, ne-eqb, lt-leb}
+use Rattle.model.specs.Ticks.{never}
+use Rattle.model.specs.Limits.{maxJunctions}
+use Rattle.model.specs.Network.{Network, Accepted, netOf}
+use Rattle.model.specs.Demands.{label}
+use Rattle.model.specs.Labels.{noArc, labelsOf, predecessorsOf, Certified}
+use Rattle.model.specs.Routes.{routeOf}
+use Rattle.model.specs.Rules.{Outcome, refused, replied, firstBroken, AllKept, written}
+use Rattle.model.proofs.Networks.{accepted-sound}
+use Rattle.model.proofs.OnlyTables.{labels-certified}
+use Rattle.model.proofs.Routes.{allBack, route-reverses, whole}
+use Rattle.model.proofs.Trails.{Trail, here, back}
+use Rattle.model.proofs.Rules.{replies-kept, refused-before}
+use Rattle.checking.specs.Question.{questionRules, questionCheck}
+use Rattle.checking.proofs.QuestionRules.{Taken, kept-taken}
+use Rattle.reckoning.specs.Labels.{labelsAnswer, labelsAfter, predecessorsAfter}
+use Rattle.reckoning.proofs.Turns.{getD-inside}
+use Rattle.routing.specs.Following.{backFrom, Leads, Reached, Follows, no-junction, unreached, too-short, found}
+use Rattle.routing.specs.Route.{outcomeOf, arrivalOf, routeAnswer, routeArrival, arcsAfter}
+use Rattle.routing.specs.declared.route.Routed.{Routed}
+use Rattle.routing.proofs.RouteRules.{route, own, own-decides, replies}
+
+-- An answer together with the arrival and with what the list holds afterwards.
+abbrev Ends : Network → ℕ → ℕ → ℕ → List ℕ → Outcome ℕ → Option ℕ → List ℕ → Type 0
+Ends N source departure destination arcs outcome arrival arcs′ =
+    (outcome ≡ routeAnswer N source departure destination arcs)
+    × ((arrival ≡ routeArrival N source departure destination arcs) × (arcs′ ≡ arcsAfter N source departure destination arcs))
+
+-- The tables have room for as many junctions as a network may have.
+pub count-refuses : (N : Network) (source departure destination : ℕ) (arcs : List ℕ) → maxJunctions < N .junctions → Ends N source departure destination arcs (refused 1) none arcs
+unfolding routeAnswer firstBroken
+count-refuses N source departure destination arcs many = rw (lt-ltb 0 (N .junctions) (omega arith), lt-leb (N .junctions) maxJunctions many) (refl, (refl, refl))
+
+-- ---- The call of Labels
+
+-- What Labels comes to where the buffers have the right length: it refuses what the question's rules refuse, or writes the tables.
+pub record LabelsCalled (N : Network) (source departure : ℕ) (outcome : Outcome (Unit {0})) (labels predecessors : List ℕ) : Type 0 where
+  pub as-question : outcome ≡ questionCheck N source departure
+  pub labels-are : outcome ≡ replied tt → labels ≡ labelsOf (netOf N) source departure
+  pub predecessors-are : outcome ≡ replied tt → predecessors ≡ predecessorsOf (netOf N) source departure
+
+-- By its contract; the tables are then read where they stand after it.
+pub labels-called : (N : Network) (source departure : ℕ) (labels predecessors : List ℕ) → length labels ≡ N .junctions → length predecessors ≡ N .junctions →
+    {outcome : Outcome (Unit {0})} {labels′ predecessors′ : List ℕ} →
+    (outcome ≡ labelsAnswer N source departure labels predecessors) × ((labels′ ≡ labelsAfter N source departure labels predecessors) × (predecessors′ ≡ predecessorsAfter N source departure labels predecessors)) →
+    {labels″ predecessors″ : List ℕ} → labels″ ≡ labels′ → predecessors″ ≡ predecessors′ → LabelsCalled N source departure outcome labels″ predecessors″
+unfolding labelsAnswer questionCheck firstBroken
+labels-called N source departure labels predecessors labels-long predecessors-long ends l p = record {
+  as-question = ends .0 ∙ rw (eq-eqb (length labels) (N .junctions) labels-long, eq-eqb (length predecessors) (N .junctions) predecessors-long);
+  labels-are = λ wrote. l ∙ rw (← ends .0, wrote) at (ends .1 .0);
+  predecessors-are = λ wrote. p ∙ rw (← ends .0, wrote) at (ends .1 .1);
+}
+
+-- ---- Following them
+
+trail-leads : (N : Network) → Accepted N → (source : ℕ) (labels predecessors : List ℕ) → length predecessors ≡ N .junctions → {j : ℕ} {arcs : List ℕ} →
+    Trail (netOf N) source labels predecessors j arcs → Leads (N .tails) source predecessors j arcs
+trail-leads N accepted source labels predecessors long here = Leads.here
+trail-leads N accepted source labels predecessors long (back j other at rest) =
+    let inside : j < length predecessors = omega (arith, at .into, accepted .head-below (getD predecessors j noArc) (at .is-arc)) in
+    let same = getD-inside predecessors j noArc 0 inside in
+    rw same (Leads.back j other inside (rw same at (at .is-arc)) (rw same at (trail-leads N accepted source labels predecessors long rest)))
+
+module _ {N : Network} {source departure : ℕ} {outcome : Outcome (Unit {0})} {labels predecessors : List ℕ} (t : LabelsCalled N source departure outcome labels predecessors) where
+  pub labels-refuses : {number : ℕ} → outcome ≡ refused number → (destination : ℕ) (arcs : List ℕ) → Ends N source departure destination arcs (refused number) none arcs
+  unfolding routeAnswer questionCheck
+  labels-refuses {number} refuses destination arcs =
+      let answer = refused-before (questionRules N source departure) (own N source departure destination arcs) tt (length (route N source departure destination arcs)) number (sym (t .as-question) ∙ refuses) in
+      (sym answer, (rw answer, rw answer))
+
+  module _ (wrote : outcome ≡ replied tt) where
+    kept : AllKept (questionRules N source departure)
+    unfolding questionCheck
+    kept = replies-kept (questionRules N source departure) tt tt (sym (t .as-question) ∙ wrote)
+
+    taken : Taken N source departure
+    taken = kept-taken N source departure kept
+
+    certified : Certified (netOf N) source departure labels predecessors
+    certified = rw (t .labels-are wrote, t .predecessors-are wrote) (labels-certified (netOf N) (accepted-sound N (taken .accepted)) source departure (taken .source-below) (omega (arith, taken .departure-below)))
+
+    pub few : length predecessors ≤ maxJunctions
+    few = omega (arith, certified .predecessors-long, taken .accepted .junctions-fit)
+
+    module _ (destination : ℕ) where
+      abbrev way : List ℕ
+      way = backFrom (N .tails) source predecessors destination
+
+      way-is : way ≡ allBack (netOf N) source departure destination
+      way-is = rw (certified .predecessors-long, t .predecessors-are wrote)
+
+      route-is : reverse way ≡ routeOf (netOf N) source departure destination
+      route-is = ap reverse way-is ∙ sym (route-reverses (netOf N) source departure destination)
+
+      route-long : length way ≡ length (routeOf (netOf N) source departure destination)
+      route-long = sym (length-reverse way) ∙ ap length route-is
+
+      below : destination < length labels → destination < N .junctions
+      below inside = omega (arith, certified .labels-long)
+
+      -- The destination's label, as it stands in the table.
+      label-is : destination < length labels → label N source departure destination ≡ getD labels destination 0
+      label-is inside = ap (λ l. getD l destination never) (sym (t .labels-are wrote)) ∙ getD-inside labels destination never 0 inside
+
+      has-label : Reached labels destination → label N source departure destination ≡ never → ⊥
+      has-label r e = r .has-label (sym (label-is (r .is-junction)) ∙ e)
+
+      pub leads : Reached labels destination → Leads (N .tails) source predecessors destination way
+      leads r =
+          rw way-is
+          (trail-leads N (taken .accepted) source labels predecessors (certified .predecessors-long)
+          (rw (t .labels-are wrote, t .predecessors-are wrote)
+          (whole (netOf N) (accepted-sound N (taken .accepted)) source departure (taken .source-below) (omega (arith, taken .departure-below)) destination (below (r .is-junction)) (has-label r))))
+
+      -- Each test of Route's own rules, as following finds it.
+      pub follows-ends : {arcs arcs′ : List ℕ} {answer : Routed} → Follows labels destination way arcs answer arcs′ →
+          Ends N source departure destination arcs (outcomeOf answer) (arrivalOf answer) arcs′
+      unfolding firstBroken
+      follows-ends {arcs} (no-junction outside) =
+          rw (own-decides N source departure destination arcs kept, le-ltb destination (N .junctions) (omega (arith, certified .labels-long))) (refl, (refl, refl))
+      follows-ends {arcs} (unreached inside e) =
+          rw (own-decides N source departure destination arcs kept, lt-ltb destination (N .junctions) (below inside), eq-eqb (label N source departure destination) never (label-is inside ∙ e)) (refl, (refl, refl))
+      follows-ends {arcs} (too-short r short) =
+          rw (own-decides N source departure destination arcs kept, lt-ltb destination (N .junctions) (below (r .is-junction)), ne-eqb (label N source departure destination) never (has-label r), lt-ltb (length arcs) (length (routeOf (netOf N) source departure destination)) (omega (arith, route-long))) (refl, (refl, refl))
+      follows-ends {arcs} (found r room same is) =
+          rw (replies N source departure destination arcs kept (below (r .is-junction)) (has-label r) (omega (arith, route-long)))
+          (ap replied (same ∙ route-long), (rw (label-is (r .is-junction)), is ∙ ap (λ l. written l arcs) route-is))

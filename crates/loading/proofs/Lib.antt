@@ -13,5 +13,6 @@ pub mod NumbersLeft
 pub mod RestLines
 pub mod Rests
 pub mod Scanning
+pub mod ShortSpeeds
 pub mod Steps
 pub mod Taking

@@ -4,3 +4,4 @@ pub mod LineSteps
 pub mod Loads
 pub mod Naming
 pub mod Scans
+pub mod ShortSpeeds

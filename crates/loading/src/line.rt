@@ -1,10 +1,12 @@
 // One line of a town file: what it adds to the progress, or its first fault of 23 to 26. The line's length and its line feed are
 // the scan's.
+mod speeds;
+
 ghost use mathlib.Core.Path.{_≡_};
 ghost use mathlib.Core.Bool.{_&&_};
 ghost use mathlib.Core.List.{[], _∷_};
 ghost use Prim.Native.Nat.{_+_};
-ghost use Rattle.model.specs.Rules.{every, fencesKeep, speedKeeps};
+ghost use Rattle.model.specs.Rules.{fencesKeep};
 ghost use Rattle.townfile.specs.Lines.{townKeeps, junctionKeeps, arcKeeps};
 ghost use Rattle.loading.specs.LineSteps.{fenceKeeps, arcFits, numbersRead, withinIf, nameAt, outcomeOf, townStep, fencesStep, junctionStep, arcStep, commentStep, lineStep};
 use crate::field::Field;
@@ -14,11 +16,11 @@ use crate::field::mark_at;
 use crate::field::name_rest;
 use crate::field::printable;
 use crate::field::read_field;
+use crate::line::speeds::speeds_read;
 use model::limit::MAX_ARCS;
 use model::limit::MAX_INTERVALS;
 use model::limit::MAX_JUNCTIONS;
 use model::limit::MAX_LENGTH;
-use model::limit::MAX_SPEED;
 use model::refusal::Refusal;
 use model::tick::Tick;
 use townfile::mark::ARC;
@@ -91,7 +93,7 @@ fn arc_fits(progress: Progress, tail: u32, head: u32, metres: u32) -> bool
     )
 }
 
-// ---- Numbers to the end of the line. Each goes on after one outside its limits, since a field of the wrong form counts first.
+// ---- Numbers to the end of the line. The reading goes on after one outside its limits, since a field of the wrong form counts first.
 
 fn fences_read(text: &[u8], at: usize, count: u32) -> Numbers
     ensures { λ r. ⌜ r ≡ numbersRead fencesKeep count (now (text .entry)) at ⌝ }
@@ -106,23 +108,6 @@ fn fences_read(text: &[u8], at: usize, count: u32) -> Numbers
         };
         within = both(within, fence_keeps(k, before, value));
         before = value;
-        i = next;
-        k += 1;
-    }
-    numbers_end(text, i, within)
-}
-
-fn speeds_read(text: &[u8], at: usize, count: u32) -> Numbers
-    ensures { λ r. ⌜ r ≡ numbersRead (every speedKeeps) count (now (text .entry)) at ⌝ }
-{
-    let mut i = at;
-    let mut k = 0u32;
-    let mut within = true;
-    while k < count {
-        let Field::Number { value, next } = read_field(text, i) else {
-            return Numbers::Malformed;
-        };
-        within = both(within, value <= MAX_SPEED as u32);
         i = next;
         k += 1;
     }

@@ -1,4 +1,4 @@
--- `line::speeds_read`: at each turn what the numbers left come to, behind the flag, is what all of them come to.
+-- `line::speeds::long_speeds`: at each turn what the numbers left come to, behind the flag, is what all of them come to.
 use borrow.Author.Needs.{needs}
 use Prim.Native.Nat.{_-_, _≤_}
 use mathlib.Core.Path.{_≡_, refl, sym, _∙_}
@@ -6,8 +6,8 @@ use native.Mathlib.Omega.{arith}
 use Rattle.model.specs.Rules.{every, speedKeeps}
 use Rattle.loading.specs.LineSteps.{numbersRead}
 use Rattle.loading.proofs.NumberLoops.{all-left, left-malformed, left-goes-on, none-left, speedsTest, speeds-test-goes, speeds-test-ends}
-use Rattle.loading.proofs.line.speeds_read.Statement.{statement}
-use Rattle.loading.proofs.line.speeds_read.Tie as tie
+use Rattle.loading.proofs.line.speeds.long_speeds.Statement.{statement}
+use Rattle.loading.proofs.line.speeds.long_speeds.Tie as tie
 
 abbrev Inv-loop : tie.InvT-loop
 Inv-loop text at count i₀ k₀ within₀ i k within = (numbersRead (speedsTest within) (count - k) text i ≡ numbersRead (every speedKeeps) count text at) × (k ≤ count)
@@ -34,8 +34,8 @@ returns-2 c =
     let last = c .before .before .loop in
     c .numbers-end .ensures ∙ none-left _ _ _ _ _ _ (last .inv .1) (c .before .loop-test .left) (speeds-test-ends _) ∙ last .inv .0
 
-pub speeds-read-spec : {M : Type 1} → statement M
-speeds-read-spec =
+pub long-speeds-spec : {M : Type 1} → statement M
+long-speeds-spec =
     tie.close
     (tie.spec
     Inv-loop

@@ -19,8 +19,8 @@ use Rattle.model.specs.Rules.{replied, firstBroken, every, riseFrom, fencesKeep
 use Rattle.model.proofs.IntervalWalk.{walk-is-arrival}
 use Rattle.model.proofs.NetworkRules.{accepts-when-kept}
 use Rattle.model.proofs.Rules.{replies-kept, every-at}
-use Rattle.reckoning.specs.Labelling.{Labelable}
-use Rattle.reckoning.proofs.LabelRules.{labels-replies-when-labelable}
+use Rattle.labelling.specs.Labelling.{Labelable}
+use Rattle.labelling.proofs.LabelRules.{labels-replies-when-labelable}
 use Rattle.driving.specs.ArcArrival.{arcRules}
 use Rattle.driving.proofs.ArcRules.{kept-accepted, replies}
 use Rattle.townfile.specs.Bytes.{upTo, onFirst, pieces}

@@ -3,16 +3,16 @@ ghost use mathlib.Core.Path.{_≡_};
 ghost use Rattle.model.specs.Network.{network};
 ghost use Rattle.model.specs.NetworkRules.{networkCheck};
 ghost use Rattle.driving.specs.ArcArrival.{arcArrival};
-ghost use Rattle.reckoning.specs.Labels.{labelsAnswer, labelsAfter, predecessorsAfter};
+ghost use Rattle.labelling.specs.Labels.{labelsAnswer, labelsAfter, predecessorsAfter};
 ghost use Rattle.routing.specs.Route.{routeAnswer, arcsAfter};
 ghost use Rattle.exports.specs.Codes.{numberOr0, arrivalCode, countCode};
 use checking::network::NetworkCheck;
 use checking::network::network_check;
 use driving::arc::ArcArrival;
 use driving::arc::arc_arrival;
+use labelling::labels::Labelled;
 use model::label::UNREACHED;
 use model::tick::Tick;
-use reckoning::labels::Labelled;
 use routing::route::Routed;
 use routing::route::route;
 
@@ -69,7 +69,7 @@ pub extern "C" fn exports_labels(
     ensures labels { λ _. ⌜ now (labels .exit) ≡ labelsAfter (network junctions (now (fences .entry)) (now (tails .entry)) (now (heads .entry)) (now (lengths .entry)) (now (speeds .entry))) source departure (now (labels .entry)) (now (predecessors .entry)) ⌝ }
     ensures predecessors { λ _. ⌜ now (predecessors .exit) ≡ predecessorsAfter (network junctions (now (fences .entry)) (now (tails .entry)) (now (heads .entry)) (now (lengths .entry)) (now (speeds .entry))) source departure (now (labels .entry)) (now (predecessors .entry)) ⌝ }
 {
-    match reckoning::labels::labels(
+    match labelling::labels::labels(
         junctions,
         fences,
         tails,

@@ -26,9 +26,9 @@ use Rattle.townfile.proofs.Marks.{Known, known-mark, town-mark, fences-mark, ju
 use Rattle.townfile.proofs.Described.{described-town}
 use Rattle.townfile.proofs.Loaded.{load-accepts-when-described}
 use Rattle.townfile.proofs.Pieces.{upTo-has-none}
-use Rattle.loading.specs.Fields.{lineFrom}
+use Rattle.reading.specs.Fields.{lineFrom}
 use Rattle.loading.specs.Filling.{EndsInside, FencesLine, ArcLine, Fillable}
-use Rattle.loading.proofs.LineFrom.{line-at}
+use Rattle.reading.proofs.LineFrom.{line-at}
 
 -- ---- One line
 

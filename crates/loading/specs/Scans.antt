@@ -8,8 +8,8 @@ use Rattle.model.specs.Refusals.{numberOf}
 use Rattle.model.specs.Rules.{Outcome, refused, replied}
 use Rattle.townfile.specs.FirstFault.{Reading, refusedAt, accepted}
 use Rattle.townfile.specs.declared.progress.Progress.{Progress}
-use Rattle.loading.specs.Fields.{lineFrom}
-use Rattle.loading.specs.LineSteps.{Step, lineStep}
+use Rattle.reading.specs.Fields.{lineFrom}
+use Rattle.reading.specs.LineSteps.{Step, lineStep}
 use Rattle.loading.specs.declared.scan.Scanned.{Scanned}
 use Rattle.loading.specs.declared.scan.Scanned.the-variants.{Read, Refused}
 

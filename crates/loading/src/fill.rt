@@ -7,10 +7,10 @@ ghost use lib.Seq.{sets};
 ghost use Rattle.model.specs.Rules.{every, speedKeeps, written};
 ghost use Rattle.townfile.specs.Grammar.{networkOf};
 ghost use Rattle.townfile.specs.Tables.{townOf};
-ghost use Rattle.loading.specs.Fields.{lineFrom, fieldKeeps, numbersFrom};
+ghost use Rattle.reading.specs.Fields.{lineFrom, fieldKeeps, numbersFrom};
 ghost use Rattle.loading.specs.Filling.{EndsInside, takenAt, NumbersFill, ArcFills, Fillable};
-use crate::field::line_end;
-use crate::field::mark_at;
+use reading::field::line_end;
+use reading::field::mark_at;
 use townfile::mark::ARC;
 use townfile::mark::FENCES;
 

@@ -1,8 +1,6 @@
 // Load and Name: reading a town file. A scan finds the first fault or the counts and writes nothing; the tables are filled only
 // after it, from the text again.
-pub mod field;
 mod fill;
-mod line;
 pub mod load;
 pub mod name;
 mod scan;

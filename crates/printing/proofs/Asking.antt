@@ -14,12 +14,12 @@ use Rattle.townfile.specs.Bytes.{lineFeed, space, upTo, pieces}
 use Rattle.townfile.specs.Numbers.{numberKeeps}
 use Rattle.townfile.specs.Lines.{markOf, markAlone, numbersOf, numbersKeep}
 use Rattle.townfile.specs.Grammar.{Bytes}
-use Rattle.loading.specs.Fields.{lineFrom, fieldAt, numbersFrom, filledBy}
-use Rattle.loading.specs.LineSteps.{numbersRead}
-use Rattle.loading.specs.declared.field.Field.the-variants as field
-use Rattle.loading.proofs.BehindMark.{past-two-word, past-two-fields}
-use Rattle.loading.proofs.LineFrom.{line-ends, line-feed-ends, line-goes-on}
-use Rattle.loading.proofs.NumbersLeft.{and-false, FieldRead, field-read, number-goes, end-behind, numbers-go-on, numbers-malformed, numbers-not-ended, numbers-within}
+use Rattle.reading.specs.Fields.{lineFrom, fieldAt, numbersFrom, filledBy}
+use Rattle.reading.specs.LineSteps.{numbersRead}
+use Rattle.reading.specs.declared.field.Field.the-variants as field
+use Rattle.reading.proofs.BehindMark.{past-two-word, past-two-fields}
+use Rattle.reading.proofs.LineFrom.{line-ends, line-feed-ends, line-goes-on}
+use Rattle.reading.proofs.NumbersLeft.{and-false, FieldRead, field-read, number-goes, end-behind, numbers-go-on, numbers-malformed, numbers-not-ended, numbers-within}
 use Rattle.printing.specs.Question.{markQU, firstLine, asks, askedBy}
 use Rattle.printing.specs.declared.question.Asked.the-variants.{Question, Malformed}
 

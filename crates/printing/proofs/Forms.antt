@@ -18,8 +18,8 @@ use Rattle.townfile.specs.Numbers.{decimal, numberKeeps}
 use Rattle.townfile.specs.Lines.{markOf, markAlone, numbersOf, numbersKeep}
 use Rattle.townfile.specs.Grammar.{Bytes, Fields}
 use Rattle.townfile.proofs.FieldForm.{upTo-part, pieces-fields, fields-pieces, fields-lack}
-use Rattle.loading.specs.Fields.{lineFrom, filledBy}
-use Rattle.loading.proofs.NumbersLeft.{no-bytes}
+use Rattle.reading.specs.Fields.{lineFrom, filledBy}
+use Rattle.reading.proofs.NumbersLeft.{no-bytes}
 use Rattle.printing.specs.Question.{markQU, firstLine, asks, sourceIn, departureIn, townIn, AsksWhenOfForm}
 use Rattle.printing.proofs.Asking.{marked-line, marked-bytes}
 

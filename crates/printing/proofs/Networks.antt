@@ -20,7 +20,7 @@ use Rattle.model.proofs.Rules.{kept-before, refused-before, kept-replies, repli
 use Rattle.model.proofs.Within.{within-length}
 use Rattle.townfile.specs.FirstFault.{refusedAt, accepted}
 use Rattle.checking.specs.Question.{startRules}
-use Rattle.reckoning.specs.Labels.{bufferRules, labelsAnswer, labelsAfter, predecessorsAfter}
+use Rattle.labelling.specs.Labels.{bufferRules, labelsAnswer, labelsAfter, predecessorsAfter}
 use Rattle.printing.specs.Answer.{numberUnless, tableText, arrivalsIn, atLineZero, networkAnswer}
 use Rattle.printing.specs.Putting.{Printed, Printable}
 use Rattle.printing.proofs.Digits.{digits-short}

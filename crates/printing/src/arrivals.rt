@@ -6,13 +6,15 @@ ghost use Rattle.model.specs.Network.{network};
 ghost use Rattle.model.specs.NetworkRules.{networkCheck};
 ghost use Rattle.model.specs.Rules.{replied, written};
 ghost use Rattle.townfile.specs.Load.{counts, tables, LongEnough, networkAt};
-ghost use Rattle.reckoning.specs.Labels.{outcomeOf, labelsAnswer, labelsAfter, predecessorsAfter};
+ghost use Rattle.labelling.specs.Labels.{outcomeOf, labelsAnswer, labelsAfter, predecessorsAfter};
 ghost use Rattle.printing.specs.Answer.{textOf, tableText, networkAnswer, townAnswer, arrivalsText};
 ghost use Rattle.printing.specs.Putting.{Printed, Printable};
 use crate::put::put_refusal;
 use crate::question::Asked;
 use crate::question::question;
 use crate::table::put_table;
+use labelling::labels::Labelled;
+use labelling::labels::labels;
 use loading::load::Loaded;
 use loading::load::load;
 use model::limit::MAX_ARCS;
@@ -20,8 +22,6 @@ use model::limit::MAX_INTERVALS;
 use model::limit::MAX_JUNCTIONS;
 use model::refusal::Refusal;
 use model::tick::Tick;
-use reckoning::labels::Labelled;
-use reckoning::labels::labels;
 use townfile::limit::MAX_TEXT;
 
 // Lends the first entries of both buffers to Labels, one for each junction.

@@ -1,9 +1,9 @@
 // The first line of the input.
 ghost use mathlib.Core.Path.{_≡_};
 ghost use Rattle.printing.specs.Question.{askedBy};
-use loading::field::Field;
-use loading::field::mark_at;
-use loading::field::read_field;
+use reading::field::Field;
+use reading::field::mark_at;
+use reading::field::read_field;
 use townfile::mark::LINE_FEED;
 
 // `QU`.

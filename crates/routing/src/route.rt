@@ -8,13 +8,13 @@ ghost use Rattle.model.specs.Network.{network};
 ghost use Rattle.model.specs.Rules.{written};
 ghost use Rattle.routing.specs.Following.{backFrom, Leads, Reached, Follows};
 ghost use Rattle.routing.specs.Route.{outcomeOf, arrivalOf, routeAnswer, routeArrival, arcsAfter};
+use labelling::labels::Labelled;
+use labelling::labels::labels;
 use model::label::NO_ARC;
 use model::label::UNREACHED;
 use model::limit::MAX_JUNCTIONS;
 use model::refusal::Refusal;
 use model::tick::Tick;
-use reckoning::labels::Labelled;
-use reckoning::labels::labels;
 
 pub enum Routed {
     // The number of arcs, and the destination's label.

@@ -3,10 +3,10 @@ ghost use mathlib.Core.Path.{_≡_};
 ghost use lib.ListN.{length};
 use driving::arc::ArcArrival;
 use driving::arc::arc_arrival;
+use labelling::labels::Labelled;
+use labelling::labels::labels;
 use libc::STDOUT_FILENO;
 use model::tick::Tick;
-use reckoning::labels::Labelled;
-use reckoning::labels::labels;
 use routing::route::Routed;
 use routing::route::route;
 

@@ -1,7 +1,7 @@
 -- `network::exports_labels`: the number of what Labels answers; the tables are Labels' own.
 use borrow.Author.Needs.{needs}
 use mathlib.Core.Path.{sym, ap, _∙_}
-use Rattle.reckoning.specs.Labels.{outcomeOf}
+use Rattle.labelling.specs.Labels.{outcomeOf}
 use Rattle.exports.specs.Codes.{numberOr0}
 use Rattle.exports.proofs.network.exports_labels.Statement.{statement}
 use Rattle.exports.proofs.network.exports_labels.Tie as tie

@@ -9,10 +9,10 @@ use lib.ListN.{length}
 use denote.Ref.{now}
 use Rattle.townfile.specs.Lines.{markFN, markAR, markOf, known}
 use Rattle.townfile.specs.Load.{tables}
-use Rattle.loading.specs.Fields.{lineFrom}
+use Rattle.reading.specs.Fields.{lineFrom}
 use Rattle.loading.specs.Filling.{EndsInside}
-use Rattle.loading.proofs.LineFrom.{line-inside}
-use Rattle.loading.proofs.BehindMark.{BehindMark, behind-mark}
+use Rattle.reading.proofs.LineFrom.{line-inside}
+use Rattle.reading.proofs.BehindMark.{BehindMark, behind-mark}
 use Rattle.loading.proofs.Filling.{FilledFrom, fillable-starts, fences-asked, fences-next, arc-asked, arc-next, other-next, filled-whole}
 use Rattle.loading.proofs.fill.fill.Statement.{statement}
 use Rattle.loading.proofs.fill.fill.Tie as tie

@@ -7,7 +7,7 @@ use lib.ListN.{length}
 use denote.Ref.{now}
 use Rattle.loading.specs.Naming.{nameStart}
 use Rattle.loading.specs.declared.name.NameStart.the-variants.{At}
-use Rattle.loading.proofs.LineFrom.{line-inside}
+use Rattle.reading.proofs.LineFrom.{line-inside}
 use Rattle.loading.proofs.Naming.{NamesLeft, all-left, none-left, line-named, line-passed, starts-inside, name-found}
 use Rattle.loading.proofs.name.find_name.Statement.{statement}
 use Rattle.loading.proofs.name.find_name.Tie as tie

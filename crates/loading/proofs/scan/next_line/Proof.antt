@@ -6,8 +6,8 @@ use native.Mathlib.Omega.{arith}
 use lib.ListN.{length}
 use denote.Ref.{now}
 use Rattle.model.specs.Rules.{replied}
-use Rattle.loading.specs.Fields.{lineFrom}
-use Rattle.loading.specs.LineSteps.{step, outcomeOf, lineStep}
+use Rattle.reading.specs.Fields.{lineFrom}
+use Rattle.reading.specs.LineSteps.{step, outcomeOf, lineStep}
 use Rattle.loading.proofs.Scanning.{line-without-feed, line-too-long, line-of-bytes, line-faults, read-ends}
 use Rattle.loading.proofs.scan.next_line.Statement.{statement}
 use Rattle.loading.proofs.scan.next_line.Tie as tie

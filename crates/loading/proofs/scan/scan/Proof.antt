@@ -9,8 +9,8 @@ use denote.Ref.{now}
 use lib.ListN.{length, drop}
 use Rattle.townfile.specs.Bytes.{lineFeed, pieces}
 use Rattle.townfile.specs.FirstFault.{atEnd, linesFrom, firstFault}
-use Rattle.loading.specs.LineSteps.{outcomeOf}
-use Rattle.loading.specs.Fields.{lineFrom}
+use Rattle.reading.specs.LineSteps.{outcomeOf}
+use Rattle.reading.specs.Fields.{lineFrom}
 use Rattle.loading.proofs.Scanning.{text-too-long, scan-starts, scan-refused, scan-goes-on, scan-ends}
 use Rattle.loading.proofs.scan.scan.Statement.{statement}
 use Rattle.loading.proofs.scan.scan.Tie as tie

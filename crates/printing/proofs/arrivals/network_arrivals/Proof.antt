@@ -9,8 +9,8 @@ use denote.Ref.{now}
 use Rattle.model.specs.Labels.{labelsOf, predecessorsOf}
 use Rattle.model.specs.Network.{Network, network, netOf}
 use Rattle.model.specs.Rules.{replied}
-use Rattle.reckoning.specs.Labels.{outcomeOf, labelsAnswer}
-use Rattle.reckoning.specs.declared.labels.Labelled.the-variants.{Written}
+use Rattle.labelling.specs.Labels.{outcomeOf, labelsAnswer}
+use Rattle.labelling.specs.declared.labels.Labelled.the-variants.{Written}
 use Rattle.printing.proofs.Networks.{few-junctions, printable, answer-refused, answer-written, labels-written, predecessors-written, printable-too, printed-too}
 use borrow.Author.Needs.{needs}
 use Rattle.printing.proofs.arrivals.network_arrivals.Statement.{statement}

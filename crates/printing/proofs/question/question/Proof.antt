@@ -4,8 +4,8 @@ use mathlib.Core.Path.{_≡_, sym, _∙_}
 use denote.Ref.{now}
 use Rattle.townfile.specs.Lines.{markOf}
 use Rattle.townfile.specs.Grammar.{Bytes}
-use Rattle.loading.specs.Fields.{lineFrom, fieldAt}
-use Rattle.loading.specs.declared.field.Field.the-variants.{Number}
+use Rattle.reading.specs.Fields.{lineFrom, fieldAt}
+use Rattle.reading.specs.declared.field.Field.the-variants.{Number}
 use Rattle.printing.specs.Question.{markQU, firstLine}
 use Rattle.printing.proofs.Asking.{other-mark, no-source, no-departure, ends-with-text, more-behind, asked}
 use Rattle.printing.proofs.question.question.Statement.{statement}

@@ -11,7 +11,7 @@ use denote.Ref.{now}
 use Rattle.model.specs.Ticks.{never}
 use Rattle.model.specs.Labels.{noArc}
 use Rattle.model.specs.Network.{Network, network}
-use Rattle.reckoning.specs.Labels.{outcomeOf}
+use Rattle.labelling.specs.Labels.{outcomeOf}
 use Rattle.routing.proofs.Tables.{LabelsCalled, labels-called, count-refuses, labels-refuses, few, leads, follows-ends}
 use Rattle.routing.proofs.route.route.Statement.{statement}
 use Rattle.routing.proofs.route.route.Tie as tie

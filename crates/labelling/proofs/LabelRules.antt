@@ -1,0 +1,95 @@
+-- Labels' rules: where a rule is broken, the call is refused and the buffers are as they were; where none is, the plain
+-- conditions hold, and the demands hold of the buffers that the calls leave.
+use Prim.Native.Nat.{ℕ}
+use mathlib.Core.Path.{_≡_, refl, sym, ap, _∙_}
+use mathlib.Core.Bool.{true, not, _&&_}
+use mathlib.Core.List.{List, _++_}
+use lib.Dec.{eqb}
+use lib.ListN.{length}
+use borrow.Author.Tests.{not-false, eqb-true, eq-eqb}
+use Rattle.model.specs.Network.{Network, netOf}
+use Rattle.model.specs.Labels.{labelsOf, predecessorsOf}
+use Rattle.model.specs.Rules.{AllKept, Outcome, refused, replied, Rule, firstBroken}
+use Rattle.model.proofs.Demands.{demand-2, demand-3, only-tables-of-network}
+use Rattle.model.proofs.Rules.{kept-replies, replies-kept, refused-at, refused-before, kept-before, kept-append, both-true, true-both}
+use Rattle.labelling.specs.Labelling.{Labelable}
+use Rattle.checking.specs.Question.{questionRules, questionCheck}
+use Rattle.checking.proofs.QuestionRules.{kept-taken, taken-kept}
+use Rattle.labelling.specs.Labels.{bufferRules, labelsAnswer, labelsAfter, predecessorsAfter, LabelsRepliesWhenLabelable, Demand2OfCall, Demand3OfCalls}
+
+module _ (N : Network) (source departure : ℕ) (labels predecessors : List ℕ) where
+  abbrev answer : Outcome (Unit {0})
+  answer = labelsAnswer N source departure labels predecessors
+
+  -- An answer together with what the buffers hold afterwards.
+  abbrev Ends : Outcome (Unit {0}) → List ℕ → List ℕ → Type 0
+  Ends outcome labels′ predecessors′ = (outcome ≡ answer)
+      × ((labels′ ≡ labelsAfter N source departure labels predecessors) × (predecessors′ ≡ predecessorsAfter N source departure labels predecessors))
+
+  ends-refused : {number : ℕ} → refused number ≡ answer → Ends (refused number) labels predecessors
+  ends-refused e = (e, (rw (← e), rw (← e)))
+
+  abbrev buffers : List Rule
+  buffers = bufferRules N labels predecessors
+
+  pub question-refuses : (number : ℕ) → refused number ≡ questionCheck N source departure → Ends (refused number) labels predecessors
+  unfolding labelsAnswer questionCheck
+  question-refuses number e = ends-refused (sym (refused-before (questionRules N source departure) buffers tt tt number (sym e)))
+
+  -- Where the question is taken, the rule on the buffers decides.
+  module _ (taken : AllKept (questionRules N source departure)) where
+    rest-decides : answer ≡ firstBroken buffers tt
+    unfolding labelsAnswer
+    rest-decides = kept-before (questionRules N source departure) buffers tt taken
+
+    pub buffers-refuse : not (eqb (length labels) (N .junctions) && eqb (length predecessors) (N .junctions)) ≡ true → Ends (refused 11) labels predecessors
+    buffers-refuse broken = ends-refused (refused-at buffers tt 0 tt broken ∙ sym rest-decides)
+
+    pub replies : AllKept buffers → answer ≡ replied tt
+    replies kept = rest-decides ∙ kept-replies buffers tt kept
+
+  pub kept-labelable : AllKept (questionRules N source departure) → AllKept buffers → Labelable N source departure labels predecessors
+  kept-labelable question kept =
+      let t = kept-taken N source departure question in
+      let long = true-both (eqb (length labels) (N .junctions)) (eqb (length predecessors) (N .junctions)) (not-false _ (kept .0)) in
+      record {
+        accepted = t .accepted;
+        source-below = t .source-below;
+        departure-below = t .departure-below;
+        labels-long = eqb-true (length labels) (N .junctions) (long .0);
+        predecessors-long = eqb-true (length predecessors) (N .junctions) (long .1);
+      }
+
+  labelable-question : Labelable N source departure labels predecessors → AllKept (questionRules N source departure)
+  labelable-question q = taken-kept N source departure (record { accepted = q .accepted; source-below = q .source-below; departure-below = q .departure-below })
+
+  labelable-buffers : Labelable N source departure labels predecessors → AllKept buffers
+  labelable-buffers q = (ap not (both-true (eq-eqb (length labels) (N .junctions) (q .labels-long)) (eq-eqb (length predecessors) (N .junctions) (q .predecessors-long))), tt)
+
+  answered : answer ≡ replied tt → Labelable N source departure labels predecessors
+  unfolding labelsAnswer
+  answered e =
+      let kept = kept-append (questionRules N source departure) buffers (replies-kept (questionRules N source departure ++ buffers) tt tt e) in
+      kept-labelable (kept .0) (kept .1)
+
+  pub ends-written : {labels′ predecessors′ : List ℕ} → answer ≡ replied tt → labels′ ≡ labelsOf (netOf N) source departure → predecessors′ ≡ predecessorsOf (netOf N) source departure →
+      Ends (replied tt) labels′ predecessors′
+  ends-written e l p = (sym e, (rw e l, rw e p))
+
+-- ---- The statements
+
+pub labels-replies-when-labelable : LabelsRepliesWhenLabelable
+labels-replies-when-labelable N source departure labels predecessors =
+    (answered N source departure labels predecessors, (λ q. replies N source departure labels predecessors (labelable-question N source departure labels predecessors q) (labelable-buffers N source departure labels predecessors q)))
+
+pub demand-2-of-call : Demand2OfCall
+demand-2-of-call N source departure labels predecessors e =
+    let q = answered N source departure labels predecessors e in
+    let tables = only-tables-of-network N (q .accepted) source departure (q .source-below) (q .departure-below) (labelsOf (netOf N) source departure) (predecessorsOf (netOf N) source departure) .1 (refl, refl) in
+    rw e (demand-2 N (q .accepted) source departure (q .source-below) (q .departure-below), tables .0, tables .1)
+
+pub demand-3-of-calls : Demand3OfCalls
+demand-3-of-calls A B better source early late earlier labels predecessors labels′ predecessors′ a b j h =
+    let q = answered A source late labels predecessors a in
+    let r = answered B source early labels′ predecessors′ b in
+    rw (a, b) (demand-3 A B (q .accepted) (r .accepted) better source early late (q .source-below) earlier (q .departure-below) j h)

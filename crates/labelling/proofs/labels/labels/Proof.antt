@@ -1,0 +1,75 @@
+-- `labels::labels` meets its definition: a refused question is refused, then the test of the buffers is the rule's; where all are
+-- kept the labelling has written the two tables.
+use borrow.Author.Needs.{needs}
+use Prim.Native.Nat.{ℕ}
+use mathlib.Core.Path.{_≡_, sym, ap, _∙_}
+use mathlib.Core.Bool.{true, false, not, _&&_}
+use lib.Dec.{eqb}
+use denote.Ref.{now}
+use borrow.Author.Tests.{eq-eqb, ne-eqb}
+use Rattle.model.specs.Network.{Network, network}
+use Rattle.model.specs.Rules.{AllKept}
+use Rattle.model.proofs.Rules.{replies-kept}
+use Rattle.checking.specs.NetworkCheck.{outcomeOf}
+use Rattle.checking.specs.Question.{questionRules, questionCheck}
+use Rattle.labelling.specs.Labels.{bufferRules}
+use Rattle.labelling.proofs.LabelRules.{question-refuses, buffers-refuse, replies, kept-labelable, ends-written}
+use Rattle.labelling.proofs.labels.labels.Statement.{statement}
+use Rattle.labelling.proofs.labels.labels.Tie as tie
+
+abbrev N : tie.Start → Network
+N s = network (s .args .junctions) (now (s .args .fences)) (now (s .args .tails)) (now (s .args .heads)) (now (s .args .lengths)) (now (s .args .speeds))
+
+abbrev start : tie.After-enum-told → tie.Start
+start c = c .before .before .before .before .before .before .before .before .before .before
+
+-- the question is taken
+taken : (c : tie.After-enum-told) → AllKept (questionRules (N (start c)) (start c .args .source) (start c .args .departure .number))
+unfolding questionCheck
+taken c = replies-kept _ tt tt (sym (c .before .before .question-check .ensures) ∙ ap outcomeOf (c .enum-told .given .1))
+
+-- rule 11, by the lengths of the buffers
+short-labels : (l p n : ℕ) → (l ≡ n → ⊥) → not (eqb l n && eqb p n) ≡ true
+short-labels l p n h = rw (ne-eqb l n h)
+
+short-predecessors : (l p n : ℕ) → l ≡ n → (p ≡ n → ⊥) → not (eqb l n && eqb p n) ≡ true
+short-predecessors l p n e h = rw (eq-eqb l n e, ne-eqb p n h)
+
+both-long : (l p n : ℕ) → l ≡ n → p ≡ n → not (eqb l n && eqb p n) ≡ false
+both-long l p n e f = rw (eq-eqb l n e, eq-eqb p n f)
+
+kept : (c : tie.Else2) → AllKept (bufferRules (N (start (c .before .before))) (now (start (c .before .before) .args .labels)) (now (start (c .before .before) .args .predecessors)))
+kept c = (both-long _ _ _ (c .before .if1 .left) (c .if2 .left), tt)
+
+returns : tie.Need-returns
+returns c = question-refuses _ _ _ _ _ _ (sym (ap outcomeOf (c .before .refusal .given .1)) ∙ c .before .before .before .question-check .ensures)
+
+returns-2 : tie.Need-returns-2
+returns-2 c = buffers-refuse _ _ _ _ _ (taken (c .before)) (short-labels _ _ _ (c .if1 .taken))
+
+returns-3 : tie.Need-returns-3
+returns-3 c = buffers-refuse _ _ _ _ _ (taken (c .before .before)) (short-predecessors _ _ _ (c .before .if1 .left) (c .if2 .taken))
+
+label-all-requires : tie.Need-label-all-requires
+label-all-requires c κs = kept-labelable _ _ _ _ _ (taken (c .before .before .before .before)) (kept (c .before .before))
+
+returns-4 : tie.Need-returns-4
+returns-4 c =
+    let labelled = c .before .before .before .before in
+    let fits = labelled .before .before .before in
+    ends-written _ _ _ _ _ (replies _ _ _ _ _ (taken (fits .before .before)) (kept fits)) (labelled .label-all .ensures .0) (labelled .label-all .ensures .1)
+
+pub labels-spec : {M : Type 1} → statement M
+labels-spec =
+    tie.close
+    (tie.spec
+    (λ c κs. search needs)
+    (λ c. search needs)
+    returns
+    (λ c. search needs)
+    returns-2
+    returns-3
+    label-all-requires
+    (λ c. search needs)
+    (λ c. search needs)
+    returns-4)

@@ -1,0 +1,64 @@
+// Labels: the earliest arrival at every junction, and the arc by which it is reached.
+ghost use mathlib.Core.Path.{_≡_};
+ghost use Rattle.model.specs.Network.{network};
+ghost use Rattle.labelling.specs.Labels.{outcomeOf, labelsAnswer, labelsAfter, predecessorsAfter};
+use crate::labelling::label_all;
+use checking::network::NetworkCheck;
+use checking::question::question_check;
+use model::refusal::Refusal;
+use model::tick::Tick;
+
+pub enum Labelled {
+    Written,
+    Refused(Refusal),
+}
+
+pub fn labels(
+    junctions: u32,
+    fences: &[u32],
+    tails: &[u16],
+    heads: &[u16],
+    lengths: &[u32],
+    speeds: &[u8],
+    source: u32,
+    departure: Tick,
+    labels: &mut [u32],
+    predecessors: &mut [u16],
+) -> Labelled
+    ensures answer { λ r. ⌜ outcomeOf r ≡ labelsAnswer (network junctions (now (fences .entry)) (now (tails .entry)) (now (heads .entry)) (now (lengths .entry)) (now (speeds .entry))) source (departure .number) (now (labels .entry)) (now (predecessors .entry)) ⌝ }
+    ensures labels { λ _. ⌜ now (labels .exit) ≡ labelsAfter (network junctions (now (fences .entry)) (now (tails .entry)) (now (heads .entry)) (now (lengths .entry)) (now (speeds .entry))) source (departure .number) (now (labels .entry)) (now (predecessors .entry)) ⌝ }
+    ensures predecessors { λ _. ⌜ now (predecessors .exit) ≡ predecessorsAfter (network junctions (now (fences .entry)) (now (tails .entry)) (now (heads .entry)) (now (lengths .entry)) (now (speeds .entry))) source (departure .number) (now (labels .entry)) (now (predecessors .entry)) ⌝ }
+{
+    let tick = departure.number;
+    if let NetworkCheck::Refused(refusal) = question_check(
+        junctions,
+        fences,
+        tails,
+        heads,
+        lengths,
+        speeds,
+        source,
+        tick,
+    ) {
+        return Labelled::Refused(refusal);
+    }
+    if labels.len() != junctions as usize {
+        return Labelled::Refused(Refusal::BufferLength);
+    }
+    if predecessors.len() != junctions as usize {
+        return Labelled::Refused(Refusal::BufferLength);
+    }
+    label_all(
+        junctions as usize,
+        fences,
+        tails,
+        heads,
+        lengths,
+        speeds,
+        source as usize,
+        tick,
+        labels,
+        predecessors,
+    );
+    Labelled::Written
+}

@@ -1,0 +1,68 @@
+-- `line::junction_line`: its turn, then its number, then its name; the number's limits come last.
+use borrow.Author.Needs.{needs}
+use mathlib.Core.Path.{_≡_, sym, _∙_}
+use native.Mathlib.Omega.{arith}
+use borrow.Author.Tests.{not-true, not-false}
+use denote.Ref.{now}
+use Rattle.reading.specs.Fields.{fieldAt}
+use Rattle.reading.specs.LineSteps.{nameAt}
+use Rattle.reading.specs.declared.field.Field.the-variants.{Number}
+use Rattle.reading.specs.declared.field.Rest.the-variants.{Good}
+use Rattle.reading.proofs.Steps.{junction-out-of-turn, junction-in-turn, junction-with-name, junction-outside, junction-named, junction-below}
+use Rattle.reading.proofs.line.junction_line.Statement.{statement}
+use Rattle.reading.proofs.line.junction_line.Tie as tie
+
+abbrev start : tie.After-known-told → tie.Start
+start c = c .before .before .before .before .before .before .before
+
+number-read : (c : tie.After-known-told) → Number (c .before .junction .given .0 .0) (c .before .junction .given .0 .1 .0) ≡ fieldAt (now (start c .args .text)) (start c .args .at)
+number-read c = sym (c .before .junction .given .1) ∙ c .before .before .before .read-field .ensures
+
+name-read : (c : tie.After-known-told2) → Good (c .before .end .given .0 .0) ≡ nameAt (now (start (c .before .before .before .before) .args .text)) (c .before .before .before .before .before .junction .given .0 .1 .0)
+name-read c = sym (c .before .end .given .1) ∙ c .before .before .before .name-at .ensures
+
+returns : tie.Need-returns
+returns c = junction-out-of-turn _ _ _ (c .if1 .taken)
+
+returns-2 : tie.Need-returns-2
+returns-2 c = junction-in-turn _ _ _ (c .before .before .before .if1 .left) (sym (c .enum-told .given .1) ∙ c .before .before .read-field .ensures)
+
+returns-3 : tie.Need-returns-3
+returns-3 c =
+    let number = c .before .before .before in
+    junction-with-name _ _ _ (number .before .before .before .before .if1 .left) (number-read number) (sym (c .enum-told2 .given .1) ∙ c .before .before .name-at .ensures)
+
+returns-4 : tie.Need-returns-4
+returns-4 c =
+    let name = c .before .before in
+    let number = name .before .before .before .before in
+    junction-outside _ _ _ (number .before .before .before .before .if1 .left) (number-read number) (name-read name) (sym (c .before .junction-keeps .ensures) ∙ not-true _ (c .if2 .taken))
+
+add-t15 : tie.Need-add-t15
+add-t15 c =
+    let number = c .before .before .before .before .before .before in
+    record { fits = omega (arith, junction-below (start number .args .progress) (now (start number .args .text)) (start number .args .at) _ (sym (c .before .junction-keeps .ensures) ∙ not-false _ (c .if2 .left)), number .before .before .before .before .before .struct-known .given) }
+
+returns-5 : tie.Need-returns-5
+returns-5 c =
+    let name = c .before .before in
+    let number = name .before .before .before .before in
+    junction-named _ _ _ (number .before .before .before .before .if1 .left) (number-read number) (name-read name) (sym (c .before .junction-keeps .ensures) ∙ not-false _ (c .if2 .left))
+
+pub junction-line-spec : {M : Type 1} → statement M
+junction-line-spec =
+    tie.close
+    (tie.spec
+    returns
+    (λ c κs. search needs)
+    (λ c. search needs)
+    (λ c. search needs)
+    returns-2
+    (λ c κs. search needs)
+    (λ c. search needs)
+    (λ c. search needs)
+    returns-3
+    (λ c κs. search needs)
+    returns-4
+    add-t15
+    returns-5)

@@ -1,0 +1,73 @@
+-- `line::town_line`: its turn, then its two fields.
+use borrow.Author.Needs.{needs}
+use mathlib.Core.Path.{_≡_, sym, _∙_}
+use denote.Ref.{now}
+use Rattle.reading.specs.Fields.{fieldAt}
+use Rattle.reading.specs.declared.field.Field.the-variants.{Number}
+use Rattle.reading.proofs.Steps.{town-out-of-turn, town-no-first, town-no-second, town-in-turn}
+use Rattle.reading.proofs.line.town_line.Statement.{statement}
+use Rattle.reading.proofs.line.town_line.Tie as tie
+
+abbrev start : tie.After-known-told → tie.Start
+start c = c .before .before .before .before .before .before .before
+
+junctions-read : (c : tie.After-known-told) → fieldAt (now (start c .args .text)) (start c .args .at) ≡ Number (c .before .junctions .given .0 .0) (c .before .junctions .given .0 .1 .0)
+junctions-read c = sym (c .before .before .before .read-field .ensures) ∙ c .before .junctions .given .1
+
+intervals-read : (c : tie.After-known-told2) →
+    fieldAt (now (start (c .before .before .before .before) .args .text)) (c .before .before .before .before .before .junctions .given .0 .1 .0) ≡ Number (c .before .intervals .given .0 .0) (c .before .intervals .given .0 .1 .0)
+intervals-read c = sym (c .before .before .before .read-field2 .ensures) ∙ c .before .intervals .given .1
+
+returns : tie.Need-returns
+returns c = town-out-of-turn _ _ _ (c .if1 .taken)
+
+returns-2 : tie.Need-returns-2
+returns-2 c = town-no-first _ _ _ (c .before .before .before .if1 .left) (sym (c .before .before .read-field .ensures) ∙ c .enum-told .given .1)
+
+returns-3 : tie.Need-returns-3
+returns-3 c =
+    let first = c .before .before .before in
+    town-no-second _ _ _ (first .before .before .before .before .if1 .left) (junctions-read first) (sym (c .before .before .read-field2 .ensures) ∙ c .enum-told2 .given .1)
+
+returns-4 : tie.Need-returns-4
+returns-4 c =
+    let ended = c .before .before .before in
+    let second = ended .before .before in
+    let first = second .before .before .before .before in
+    town-in-turn _ _ _ (first .before .before .before .before .if1 .left) (junctions-read first) (intervals-read second) (ended .before .town-keeps .ensures) (sym (c .before .end .given .1) ∙ ended .numbers-end .ensures)
+
+returns-5 : tie.Need-returns-5
+returns-5 c =
+    let ended = c .before .before in
+    let second = ended .before .before in
+    let first = second .before .before .before .before in
+    town-in-turn _ _ _ (first .before .before .before .before .if1 .left) (junctions-read first) (intervals-read second) (ended .before .town-keeps .ensures) (sym (c .enum-told3 .given .1) ∙ ended .numbers-end .ensures)
+
+returns-6 : tie.Need-returns-6
+returns-6 c =
+    let ended = c .before .before in
+    let second = ended .before .before in
+    let first = second .before .before .before .before in
+    town-in-turn _ _ _ (first .before .before .before .before .if1 .left) (junctions-read first) (intervals-read second) (ended .before .town-keeps .ensures) (sym (c .enum-told4 .given .1) ∙ ended .numbers-end .ensures)
+
+pub town-line-spec : {M : Type 1} → statement M
+town-line-spec =
+    tie.close
+    (tie.spec
+    returns
+    (λ c κs. search needs)
+    (λ c. search needs)
+    (λ c. search needs)
+    returns-2
+    (λ c κs. search needs)
+    (λ c. search needs)
+    (λ c. search needs)
+    returns-3
+    (λ c κs. search needs)
+    (λ c κs. search needs)
+    (λ c. search needs)
+    (λ c. search needs)
+    (λ c. search needs)
+    returns-4
+    returns-5
+    returns-6)

@@ -1,0 +1,62 @@
+-- What stands at a place of the text, up to the end of its line.
+use Prim.Native.Nat.{ℕ, _+_}
+use mathlib.Core.Bool.{Bool, cond, _&&_}
+use mathlib.Core.List.{List, map}
+use lib.Dec.{ltb, eqb}
+use lib.ListN.{length, getD, drop}
+use Rattle.model.specs.Rules.{every}
+use Rattle.townfile.specs.Bytes.{lineFeed, space, digit, printable, upTo, pieces}
+use Rattle.townfile.specs.Numbers.{decimalFrom, decimal, numberKeeps}
+use Rattle.townfile.specs.Lines.{nameKeeps}
+use Rattle.reading.specs.declared.field.Field.{Field}
+use Rattle.reading.specs.declared.field.Field.the-variants.{Number, Malformed}
+use Rattle.reading.specs.declared.field.Rest.{Rest}
+use Rattle.reading.specs.declared.field.Rest.the-variants as rest
+
+-- The line from a place on, up to its line feed.
+unfoldable pub lineFrom : List ℕ → ℕ → List ℕ
+lineFrom text at = upTo lineFeed (drop at text)
+
+-- The bytes from a place up to the next space or the line's end.
+abbrev pub wordFrom : List ℕ → ℕ → List ℕ
+wordFrom text at = upTo space (lineFrom text at)
+
+-- A field at a place: one space and a number.
+abbrev pub fieldKeeps : List ℕ → ℕ → Bool
+fieldKeeps text at = eqb (getD (lineFrom text at) 0 0) space && numberKeeps (wordFrom text (at + 1))
+
+unfoldable pub fieldAt : List ℕ → ℕ → Field
+fieldAt text at = cond (fieldKeeps text at) (Number (decimal (wordFrom text (at + 1))) (at + 1 + length (wordFrom text (at + 1)))) Malformed
+
+-- A number that begins with 0, from the place behind that on.
+unfoldable pub justZero : List ℕ → ℕ → Field
+justZero text end = cond (eqb (length (wordFrom text end)) 0) (Number 0 end) Malformed
+
+-- A number whose digits before a place come to a value, from that place on. If its first digit is not 0, it has at most 7 digits
+-- exactly where it is below 10,000,000.
+unfoldable pub numberFrom : List ℕ → ℕ → ℕ → Field
+numberFrom text at value =
+    cond (every digit (wordFrom text at) && ltb (decimalFrom value (wordFrom text at)) 10000000)
+    (Number (decimalFrom value (wordFrom text at)) (at + length (wordFrom text at)))
+    Malformed
+
+-- The rest of the line, where a test holds of it.
+abbrev pub restIf : (List ℕ → Bool) → List ℕ → ℕ → Rest
+restIf test text at = cond (test (lineFrom text at)) (rest.Good (at + length (lineFrom text at))) rest.Malformed
+
+abbrev pub printableRest : List ℕ → ℕ → Rest
+printableRest text at = restIf (every printable) text at
+
+abbrev pub nameRest : List ℕ → ℕ → Rest
+nameRest text at = restIf nameKeeps text at
+
+-- The fields from a place on, and their numbers.
+abbrev pub fieldsFrom : List ℕ → ℕ → List (List ℕ)
+fieldsFrom text at = drop 1 (pieces space (lineFrom text at))
+
+abbrev pub numbersFrom : List ℕ → ℕ → List ℕ
+numbersFrom text at = map decimal (fieldsFrom text at)
+
+-- Fields fill the rest of the line: each after one space, numbers all of them, and as many as they should be.
+abbrev pub filledBy : ℕ → List ℕ → ℕ → Bool
+filledBy count text at = eqb (length (wordFrom text at)) 0 && every numberKeeps (fieldsFrom text at) && eqb (length (fieldsFrom text at)) count

@@ -1,0 +1,3 @@
+// Reading a town file's fields and lines. Each function that another crate calls equals a definition for every text and every place.
+pub mod field;
+pub mod line;

@@ -15,15 +15,15 @@ prove:
 
 # Measures the operations beside the Rust program's: the tables of docs/BENCHMARK.md.
 bench:
-	rt staticlib exports
-	rt staticlib cabinet
+	rt staticlib exports > /dev/null
+	rt staticlib cabinet > /dev/null
 	cargo run --release --offline --quiet --manifest-path compare/Cargo.toml --bin bench
 
 # Compares with the Rust program on ever new inputs: make soak SEED=7 MINUTES=10
 SEED = 1
 MINUTES = 5
 soak:
-	rt staticlib exports
-	rt staticlib cabinet
-	rt check arrivals
+	rt staticlib exports > /dev/null
+	rt staticlib cabinet > /dev/null
+	rt check arrivals > /dev/null
 	cargo run --release --offline --quiet --manifest-path compare/Cargo.toml --bin soak -- $(SEED) $(MINUTES)

@@ -16,6 +16,7 @@ use Rattle.model.specs.Ticks.{last, never}
 use Rattle.model.specs.Intervals.{passed}
 use Rattle.model.specs.Network.{Network, Accepted, arcs, intervals, driveOf, netOf, arcSpeeds, arrivalOn}
 use Rattle.model.specs.Labels.{noArc, labelsOf, predecessorsOf}
+use Rattle.model.proofs.Entries.{getD-inside, getD-all}
 use Rattle.model.proofs.Networks.{accepted-sound}
 use Rattle.model.proofs.Passed.{passed-monotone}
 use Rattle.model.proofs.Tests.{ltb-cases, eqb-cases}
@@ -26,19 +27,6 @@ use Rattle.driving.proofs.Flags.{true-not-false}
 use Rattle.labelling.proofs.Linking.{arc-from, arc-from-least}
 use Rattle.labelling.proofs.Queue.{Queued, Nearest, none-waits, queued-starts, queued-settles, queued-lowers, queued-offered}
 use Rattle.labelling.proofs.Settling.{Settling, settling-starts, labels-at-most-never, reached-by-last, settling-weakens, settle, settled-label-stays, offer-keeps, offer-skips, offer-lowers, offer-ties, settling-ends}
-
--- ---- Entries within a table
-
--- An entry within a list does not depend on the default.
-pub getD-inside : {A : Type 0} (xs : List A) (i : ℕ) (d e : A) → i < length xs → getD xs i d ≡ getD xs i e
-getD-inside [] i d e h = absurd (omega arith)
-getD-inside (x ∷ xs) zero d e h = refl
-getD-inside (x ∷ xs) (suc i) d e h = getD-inside xs i d e (omega arith)
-
-getD-all : {A : Type 0} (n : ℕ) (x : A) (k : ℕ) → getD (replicate n x) k x ≡ x
-getD-all zero x k = refl
-getD-all (suc n) x zero = refl
-getD-all (suc n) x (suc k) = getD-all n x k
 
 -- ---- The arc that an offer drives
 

@@ -3,6 +3,7 @@ pub mod Certificate
 pub mod Covered
 pub mod Demands
 pub mod Distinct
+pub mod Entries
 pub mod Improvement
 pub mod IntervalWalk
 pub mod Least

@@ -7,11 +7,12 @@ use mathlib.Core.List.{List}
 use native.Mathlib.Nat.{min-eq-left, min-eq-right}
 use native.Mathlib.Decide.{decLe, decLt, ℕ-discrete}
 use native.Mathlib.Omega.{arith}
-use lib.ListN.{length, getD, set, replicate, length-set, length-replicate, getD-replicate, List·getD-eq-default}
+use lib.ListN.{length, getD, set, replicate, length-set, length-replicate}
 use lib.Seq.{getD-set-same, getD-set-other, set-out}
 use Rattle.model.specs.Ticks.{last, never}
 use Rattle.model.specs.Walks.{Net, Sound, Arrives, start, along}
 use Rattle.model.specs.Labels.{offer, offers, within}
+use Rattle.model.proofs.Entries.{getD-all}
 use Rattle.model.proofs.Walks.{drive-by-last, left-before, visited, visited-some}
 
 -- ---- Lists
@@ -24,13 +25,6 @@ getD-set l i j v d = go (ℕ-discrete j i) (decLt i (length l))
     go (no differs) inside = inl (getD-set-other l i j v d differs)
     go (yes e) (yes inside) = inr (e, rw e (getD-set-same l i v d inside))
     go (yes e) (no outside) = inl (rw (set-out l i v (omega arith)))
-
-getD-replicate-default : (n j d : ℕ) → getD (replicate n d) j d ≡ d
-getD-replicate-default n j d = go (decLt j n)
-  where
-    go : Dec (j < n) → getD (replicate n d) j d ≡ d
-    go (yes inside) = getD-replicate n j d d inside
-    go (no outside) = List·getD-eq-default (replicate n d) d (rw length-replicate (omega arith))
 
 -- ---- A round of offers
 
@@ -108,7 +102,7 @@ module _ (N : Net) (source departure : ℕ) where
   first-entry : (j : ℕ) → (getD (within N source departure zero) j never ≡ never) ⊎ ((j ≡ source) × (getD (within N source departure zero) j never ≡ departure))
   unfolding within
   first-entry j =
-      ⊎-elim (λ stays. inl (stays ∙ getD-replicate-default (N .junctions) j never)) inr (getD-set (replicate (N .junctions) never) source j departure never)
+      ⊎-elim (λ stays. inl (stays ∙ getD-all (N .junctions) never j)) inr (getD-set (replicate (N .junctions) never) source j departure never)
 
   pub within-at-source : source < N .junctions → (k : ℕ) → getD (within N source departure k) source never ≤ departure
   unfolding within

@@ -22,7 +22,7 @@ use Rattle.model.proofs.Rules.{replies-kept, refused-before}
 use Rattle.checking.specs.Question.{questionRules, questionCheck}
 use Rattle.checking.proofs.QuestionRules.{Taken, kept-taken}
 use Rattle.labelling.specs.Labels.{labelsAnswer, labelsAfter, predecessorsAfter}
-use Rattle.labelling.proofs.Turns.{getD-inside}
+use Rattle.model.proofs.Entries.{getD-inside}
 use Rattle.routing.specs.Following.{backFrom, Leads, Reached, Follows, no-junction, unreached, too-short, found}
 use Rattle.routing.specs.Route.{outcomeOf, arrivalOf, routeAnswer, routeArrival, arcsAfter}
 use Rattle.routing.specs.declared.route.Routed.{Routed}

@@ -2,7 +2,7 @@
 use Prim.Native.Nat.{ℕ, _+_, _≤_, _<_}
 use mathlib.Core.Path.{_≡_, refl, sym}
 use mathlib.Core.List.{List, [], _∷_}
-use native.Mathlib.Nat.{zero-add, add-zero, add-suc, suc-add}
+use native.Mathlib.Nat.{add-zero, add-suc, suc-add}
 use native.Mathlib.Numerals.{add-one}
 use native.Mathlib.Omega.{arith}
 use lib.ListN.{length, getD, drop, drop-of-length-le, length-append, List·getD-append}
@@ -11,19 +11,17 @@ use borrow.Author.Tests.{le-leb, lt-leb}
 use Rattle.model.specs.Ticks.{last}
 use Rattle.model.specs.Intervals.{passed, endsOf}
 
-pub passed-starts : (fences : List ℕ) (tick : ℕ) → 0 + passed fences tick ≡ passed fences tick
-passed-starts fences tick = zero-add (passed fences tick)
-
-module _ (fences : List ℕ) (tick k : ℕ) (so-far : k + passed (drop k fences) tick ≡ passed fences tick) where
-  pub passed-stops : k < length fences → tick < getD fences k 0 → k ≡ passed fences tick
+-- The fences left behind the first k add the rest of a count.
+module _ (fences : List ℕ) (tick k count : ℕ) (so-far : k + passed (drop k fences) tick ≡ count) where
+  pub passed-stops : k < length fences → tick < getD fences k 0 → k ≡ count
   unfolding passed
   passed-stops h e = rw (drop-cons fences k 0 h, passed, lt-leb (getD fences k 0) tick e, add-zero) at so-far
 
-  pub passed-goes-on : k < length fences → getD fences k 0 ≤ tick → k + 1 + passed (drop (k + 1) fences) tick ≡ passed fences tick
+  pub passed-goes-on : k < length fences → getD fences k 0 ≤ tick → k + 1 + passed (drop (k + 1) fences) tick ≡ count
   unfolding passed
   passed-goes-on h e = rw (add-one, suc-add) (rw (drop-cons fences k 0 h, passed, le-leb (getD fences k 0) tick e, add-suc) at so-far)
 
-  pub passed-ends : length fences ≤ k → k ≡ passed fences tick
+  pub passed-ends : length fences ≤ k → k ≡ count
   unfolding passed
   passed-ends h = rw (drop-of-length-le fences h, add-zero) at so-far
 

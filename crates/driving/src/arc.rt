@@ -40,7 +40,7 @@ pub fn arc_arrival(departure: Tick, metres: u32, fences: &[u32], speeds: &[u8]) 
     if Tick::LAST < tick {
         return ArcArrival::Refused(Refusal::DepartureAfterLast);
     }
-    let interval = fences_passed(fences, tick) - 1;
+    let interval = fences_passed(fences, 0, tick) - 1;
     match drive(tick, interval, metres, fences, speeds) {
         Arrival::At(arrival) => ArcArrival::At(arrival),
         Arrival::Never => ArcArrival::CannotBeDriven,

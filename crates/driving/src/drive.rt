@@ -1,7 +1,7 @@
 // The arrival on an arc, interval by interval: the engine under every operation that drives one.
 ghost use mathlib.Core.Path.{_≡_};
-ghost use Prim.Native.Nat.{_-_, _*_, _^_, _<_, _≤_, min};
-ghost use lib.ListN.{length, getD};
+ghost use Prim.Native.Nat.{_+_, _-_, _*_, _^_, _<_, _≤_, min};
+ghost use lib.ListN.{length, getD, drop};
 ghost use Rattle.model.specs.Ticks.{tick?, arrivedAt};
 ghost use Rattle.model.specs.Flow.{spansOf};
 ghost use Rattle.model.specs.Intervals.{passed, ticksFor, endsOf, walkFrom};
@@ -9,11 +9,12 @@ use model::limit::SPANS_PER_METRE;
 use model::tick::Arrival;
 use model::tick::Tick;
 
-// How many of the fences the tick has reached. One less is the number of the interval that contains it.
-pub fn fences_passed(fences: &[u32], tick: u32) -> usize
-    ensures { λ r. ⌜ r ≡ passed (now (fences .entry)) tick ⌝ }
+// How many of the fences the tick has reached, counted on from some that it has. One less is the number of the interval that
+// contains it.
+pub fn fences_passed(fences: &[u32], reached: usize, tick: u32) -> usize
+    ensures { λ r. ⌜ r ≡ reached + passed (drop reached (now (fences .entry))) tick ⌝ }
 {
-    let mut k = 0;
+    let mut k = reached;
     while k < fences.len() {
         if tick < fences[k] {
             return k;

@@ -3,7 +3,6 @@ ghost use mathlib.Core.Path.{_≡_};
 ghost use Prim.Native.Nat.{ℕ, _≤_, _<_};
 ghost use lib.ListN.{length, getD, replicate};
 ghost use Rattle.model.specs.Ticks.{never, arrivedAt};
-ghost use Rattle.model.specs.Intervals.{passed};
 ghost use Rattle.model.specs.Labels.{noArc, labelsOf, predecessorsOf};
 ghost use Rattle.model.specs.Limits.{maxArcs, maxJunctions};
 ghost use Rattle.model.specs.Network.{network, netOf, arrivalOn};
@@ -14,6 +13,7 @@ use crate::tournament::junction_of;
 use crate::tournament::key_of;
 use crate::tournament::least_key;
 use driving::drive::drive;
+use driving::drive::fences_passed;
 use model::label::NO_ARC;
 use model::label::UNREACHED;
 use model::limit::MAX_ARCS;
@@ -101,21 +101,6 @@ fn offer(
     }
 }
 
-// How many of the fences the tick has reached, counted on from some that it has.
-fn fences_passed_from(fences: &[u32], reached: usize, tick: u32) -> usize
-    requires { ⌜ reached ≤ passed (now fences) tick ⌝ }
-    ensures { λ r. ⌜ r ≡ passed (now (fences .entry)) tick ⌝ }
-{
-    let mut k = reached;
-    while k < fences.len() {
-        if tick < fences[k] {
-            return k;
-        }
-        k += 1;
-    }
-    k
-}
-
 // Writes the labels and the predecessors of a network that is accepted.
 pub(crate) fn label_all(
     junctions: usize,
@@ -152,7 +137,7 @@ pub(crate) fn label_all(
         enter(&mut tree, junction, UNREACHED);
         let tick = labels[junction];
         // Settled labels never fall: the fences that the one before had reached, this one has reached too.
-        reached = fences_passed_from(fences, reached, tick);
+        reached = fences_passed(fences, reached, tick);
         let interval = reached - 1;
         let mut a = first[junction];
         while a != NO_ARC {

@@ -11,7 +11,7 @@ use lib.Dec.{leb, ltb, eqb, eqb·suc-zero}
 use lib.ListN.{length, getD}
 use borrow.Author.Tests.{lt-ltb, le-ltb, leb-true, le-leb, lt-leb, eq-eqb, ne-eqb}
 use Rattle.model.specs.Rules.{every}
-use Rattle.model.proofs.Rules.{true-both}
+use Rattle.model.proofs.Rules.{true-both, both-true}
 use Rattle.model.proofs.Tests.{eqb-cases, leb-cases}
 use Rattle.townfile.specs.Bytes.{lineFeed, space, digit}
 use Rattle.townfile.specs.Numbers.{decimalFrom, decimal, numberKeeps}
@@ -21,6 +21,24 @@ use Rattle.reading.specs.Fields.{lineFrom, wordFrom, fieldAt, justZero, 
 use Rattle.reading.specs.declared.field.Field.the-variants.{Number, Malformed}
 use Rattle.reading.proofs.LineFrom.{line-ends, line-feed-ends, line-goes-on, word-ends, separator-ends, word-goes-on}
 use Rattle.reading.proofs.NumbersLeft.{and-false}
+
+-- ---- A digit
+
+pub digit-is : (byte : ℕ) → 48 ≤ byte → byte < 58 → digit byte ≡ true
+digit-is byte low high = both-true (le-leb 48 byte low) (le-leb byte 57 (omega arith))
+
+pub digit-bounds : (byte : ℕ) → digit byte ≡ true → (48 ≤ byte) × (byte ≤ 57)
+digit-bounds byte e = let bounds = true-both (leb 48 byte) (leb byte 57) e in (leb-true 48 byte (bounds .0), leb-true byte 57 (bounds .1))
+
+pub below-digits : (byte : ℕ) → byte < 48 → digit byte ≡ false
+below-digits byte h = rw (lt-leb 48 byte h)
+
+pub above-digits : (byte : ℕ) → 58 ≤ byte → digit byte ≡ false
+above-digits byte h = rw (le-leb 48 byte (omega arith), lt-leb byte 57 (omega arith))
+
+-- A digit begins the word at its place.
+pub digit-word : (text : List ℕ) (i : ℕ) → i < length text → 48 ≤ getD text i 0 → getD text i 0 < 58 → wordFrom text i ≡ getD text i 0 ∷ wordFrom text (i + 1)
+digit-word text i inside low high = word-goes-on text i inside (λ e. omega arith) (λ e. omega arith)
 
 -- ---- How great a number is
 
@@ -40,7 +58,7 @@ unfolding decimalFrom every
 decimal-below most k n [] e h few = lt-of-lt-of-le h (pow-le-pow-right {n = 10} (omega arith) {i = k} {j = most} (omega arith))
 decimal-below most k n (byte ∷ bytes) e h few =
     let parts = true-both (digit byte) (every digit bytes) e in
-    let high = leb-true byte 57 (true-both (leb 48 byte) (leb byte 57) (parts .0) .1) in
+    let high = digit-bounds byte (parts .0) .1 in
     decimal-below most (suc k) (n * 10 + (byte - 48)) bytes (parts .1) (omega (arith, pow-suc 10 k)) (omega arith)
 
 -- So many digits and such a size are the same, where the first digit is not 0.
@@ -70,7 +88,7 @@ keeps-zero (byte ∷ more) = unless-true _ (λ e. omega (arith, keeps-number (48
 keeps-digit : (first : ℕ) (more : List ℕ) → 49 ≤ first → first < 58 → numberKeeps (first ∷ more) ≡ (every digit more && ltb (decimalFrom (first - 48) more) 10000000)
 unfolding numberKeeps every
 keeps-digit first more low high =
-    rw (lt-ltb 0 (suc (length more)) (omega arith), le-leb 48 first (omega arith), le-leb first 57 (omega arith), ne-eqb first 48 (λ e. omega arith))
+    rw (lt-ltb 0 (suc (length more)) (omega arith), digit-is first (omega arith) high, ne-eqb first 48 (λ e. omega arith))
     (go (every digit more) (leb (suc (length more)) 7) (ltb (decimalFrom (first - 48) more) 10000000) (few-digits (first - 48) more (omega arith) (omega arith)))
   where
     go : (digits few below : Bool) → (digits ≡ true → few ≡ below) → (few && digits && true) ≡ (digits && below)
@@ -82,12 +100,6 @@ keeps-digit first more low high =
 keeps-no-other : (first : ℕ) (more : List ℕ) → digit first ≡ false → numberKeeps (first ∷ more) ≡ false
 unfolding every
 keeps-no-other first more e = unless-true _ (λ kept. let z : _≡_ {A = ℕ} 0 1 = cc (rw e at (all-digits (first ∷ more) kept)) in omega arith)
-
-pub below-digits : (byte : ℕ) → byte < 48 → digit byte ≡ false
-below-digits byte h = rw (lt-leb 48 byte h)
-
-pub above-digits : (byte : ℕ) → 58 ≤ byte → digit byte ≡ false
-above-digits byte h = rw (le-leb 48 byte (omega arith), lt-leb byte 57 (omega arith))
 
 -- ---- No field
 
@@ -129,7 +141,7 @@ module _ (text : List ℕ) (at : ℕ) (here : at < length text) (gap : getD text
     pub first-zero : getD text (at + 1) 0 ≡ 48 → justZero text (at + 1 + 1) ≡ fieldAt text at
     unfolding fieldAt justZero decimalFrom
     first-zero e =
-        let word = word-goes-on text (at + 1) inside (λ f. omega arith) (λ s. omega arith) in
+        let word = digit-word text (at + 1) inside (omega arith) (omega arith) in
         rw (is-gap, word, e, keeps-zero (wordFrom text (at + 1 + 1))) (go (wordFrom text (at + 1 + 1)))
       where
         go : (more : List ℕ) → cond (eqb (length more) 0) (Number 0 (at + 1 + 1)) Malformed ≡ cond (eqb (length more) 0) (Number (decimal (48 ∷ more)) (at + 1 + length (48 ∷ more))) Malformed
@@ -141,7 +153,7 @@ module _ (text : List ℕ) (at : ℕ) (here : at < length text) (gap : getD text
     first-digit other low high =
         let first = getD text (at + 1) 0 in
         let more = wordFrom text (at + 1 + 1) in
-        let word : wordFrom text (at + 1) ≡ first ∷ more = word-goes-on text (at + 1) inside (λ e. omega arith) (λ e. omega arith) in
+        let word : wordFrom text (at + 1) ≡ first ∷ more = digit-word text (at + 1) inside low high in
         let value : 0 * 10 + (first - 48) ≡ first - 48 = omega arith in
         let end : at + 1 + suc (length more) ≡ at + 1 + 1 + length more = omega arith in
         rw (is-gap, word, keeps-digit first more (omega arith) high, decimalFrom, value, end)
@@ -164,19 +176,19 @@ module _ (text : List ℕ) (i value : ℕ) (inside : i < length text) (low : 48 
   abbrev with-digit : ℕ
   with-digit = value * 10 + (getD text i 0 - 48)
 
-  digit-word : wordFrom text i ≡ getD text i 0 ∷ wordFrom text (i + 1)
-  digit-word = word-goes-on text i inside (λ e. omega arith) (λ e. omega arith)
+  word : wordFrom text i ≡ getD text i 0 ∷ wordFrom text (i + 1)
+  word = digit-word text i inside low high
 
   pub value-left : decimalFrom with-digit (wordFrom text (i + 1)) ≡ decimalFrom value (wordFrom text i)
   unfolding decimalFrom
-  value-left = rw digit-word
+  value-left = rw word
 
   pub end-left : i + 1 + length (wordFrom text (i + 1)) ≡ i + length (wordFrom text i)
-  end-left = rw digit-word (omega arith)
+  end-left = rw word (omega arith)
 
   pub digits-left : every digit (wordFrom text (i + 1)) ≡ every digit (wordFrom text i)
   unfolding every
-  digits-left = rw (digit-word, every, le-leb 48 (getD text i 0) low, le-leb (getD text i 0) 57 (omega arith))
+  digits-left = rw (word, every, digit-is (getD text i 0) low high)
 
   pub number-goes-on : numberFrom text (i + 1) with-digit ≡ numberFrom text i value
   unfolding numberFrom

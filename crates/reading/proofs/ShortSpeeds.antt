@@ -5,12 +5,11 @@ use mathlib.Core.Path.{_≡_, refl, subst, _∙_}
 use mathlib.Core.Bool.{true}
 use mathlib.Core.List.{List, [], _∷_}
 use native.Mathlib.Omega.{arith}
-use lib.Dec.{leb}
 use lib.ListN.{length, getD}
-use borrow.Author.Tests.{leb-true, le-leb, eq-eqb}
+use borrow.Author.Tests.{le-leb, eq-eqb}
 use Rattle.model.specs.Limits.{maxSpeed}
 use Rattle.model.specs.Rules.{every, speedKeeps}
-use Rattle.model.proofs.Rules.{true-both, both-true}
+use Rattle.model.proofs.Rules.{both-true}
 use Rattle.townfile.specs.Bytes.{lineFeed, space, digit}
 use Rattle.townfile.specs.Numbers.{decimalFrom, decimal}
 use Rattle.townfile.specs.Grammar.{Number}
@@ -22,29 +21,22 @@ use Rattle.reading.specs.ShortSpeeds.{Reached, SpeedWord, ShortWord, Sho
 use Rattle.reading.specs.declared.field.Field.the-variants as field
 use Rattle.reading.specs.declared.line.speeds.ShortRead.{ShortRead}
 use Rattle.reading.specs.declared.line.speeds.ShortRead.the-variants.{To, Unsure}
-use Rattle.reading.proofs.LineFrom.{line-feed-ends, line-goes-on, word-ends, space-ends, word-goes-on}
+use Rattle.reading.proofs.LineFrom.{line-feed-ends, line-goes-on, word-ends, space-ends}
+use Rattle.reading.proofs.Digits.{digit-is, digit-bounds, digit-word}
 use Rattle.reading.proofs.NumbersLeft.{numbers-within}
 use Rattle.reading.proofs.NumberLoops.{all-left, left-goes-on, none-left}
 
 pub reached-at : (holds : ℕ → Type 0) {read : ShortRead} {end : ℕ} → read ≡ To end → Reached holds read → holds end
 reached-at holds e h = subst (Reached holds) e h
 
--- ---- A digit
-
-pub digit-is : (byte : ℕ) → 48 ≤ byte → byte < 58 → digit byte ≡ true
-digit-is byte low high = both-true (le-leb 48 byte low) (le-leb byte 57 (omega arith))
-
-digit-bounds : (byte : ℕ) → digit byte ≡ true → (48 ≤ byte) × (byte ≤ 57)
-digit-bounds byte e = let bounds = true-both (leb 48 byte) (leb byte 57) e in (leb-true 48 byte (bounds .0), leb-true byte 57 (bounds .1))
+-- ---- A word of few digits
 
 -- A digit before what is known of the word from the next place on.
 digit-before : (text : List ℕ) (i next : ℕ) → next ≡ i + 1 → i < length text → digit (getD text i 0) ≡ true →
     {more : List ℕ} → wordFrom text next ≡ more → wordFrom text i ≡ getD text i 0 ∷ more
 digit-before text i next is inside d e =
     let bounds = digit-bounds (getD text i 0) d in
-    word-goes-on text i inside (λ feed. omega arith) (λ gap. omega arith) ∙ rw (← is, e)
-
--- ---- A word of few digits
+    digit-word text i inside (bounds .0) (omega (arith, bounds .1)) ∙ rw (← is, e)
 
 speed-word : (text : List ℕ) (first end byte : ℕ) (more : List ℕ) → wordFrom text first ≡ byte ∷ more → every digit (byte ∷ more) ≡ true → length more ≤ 2 →
     (byte ≡ 48 → length more ≡ 0) → decimal (byte ∷ more) ≤ maxSpeed → first + suc (length more) ≡ end → SpeedWord text first end

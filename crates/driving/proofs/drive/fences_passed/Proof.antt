@@ -1,30 +1,30 @@
 -- `drive::fences_passed` counts the fences that the tick has reached: the invariant says that those left add the rest of the count.
 use borrow.Author.Needs.{needs}
 use Prim.Native.Nat.{_+_, _-_}
-use mathlib.Core.Path.{_≡_}
+use mathlib.Core.Path.{_≡_, refl}
 use lib.ListN.{length, drop}
 use Rattle.model.specs.Intervals.{passed}
-use Rattle.driving.proofs.Intervals.{passed-starts, passed-stops, passed-goes-on, passed-ends}
+use Rattle.driving.proofs.Intervals.{passed-stops, passed-goes-on, passed-ends}
 use Rattle.driving.proofs.drive.fences_passed.Statement.{statement}
 use Rattle.driving.proofs.drive.fences_passed.Tie as tie
 
 abbrev Inv-loop : tie.InvT-loop
-Inv-loop fences tick k₀ k = k + passed (drop k fences) tick ≡ passed fences tick
+Inv-loop fences reached tick k₀ k = k + passed (drop k fences) tick ≡ reached + passed (drop reached fences) tick
 
 abbrev μ-loop : tie.MeasureT-loop
-μ-loop fences tick k₀ k = length fences - k
+μ-loop fences reached tick k₀ k = length fences - k
 
 loop-holds : tie.Need-loop-holds Inv-loop μ-loop
-loop-holds c = passed-starts _ _
+loop-holds c = refl
 
 returns : tie.Need-returns Inv-loop μ-loop
-returns c = passed-stops _ _ _ (c .before .before .before .loop .inv) (c .before .before .loop-test .taken) (c .if1 .taken)
+returns c = passed-stops _ _ _ _ (c .before .before .before .loop .inv) (c .before .before .loop-test .taken) (c .if1 .taken)
 
 loop-again : tie.Need-loop-again Inv-loop μ-loop
-loop-again c = passed-goes-on _ _ _ (c .before .before .before .loop .inv) (c .before .before .loop-test .taken) (c .if1 .left)
+loop-again c = passed-goes-on _ _ _ _ (c .before .before .before .loop .inv) (c .before .before .loop-test .taken) (c .if1 .left)
 
 returns-2 : tie.Need-returns-2 Inv-loop μ-loop
-returns-2 c = passed-ends _ _ _ (c .before .loop .inv) (c .loop-test .left)
+returns-2 c = passed-ends _ _ _ _ (c .before .loop .inv) (c .loop-test .left)
 
 pub fences-passed-spec : {M : Type 1} → statement M
 fences-passed-spec =

@@ -1,18 +1,19 @@
 -- `network::exports_network_check`: the number of what Network check answers.
 use borrow.Author.Needs.{needs}
-use mathlib.Core.Path.{sym, ap, _∙_}
+use mathlib.Core.Path.{_∙_}
 use Rattle.checking.specs.NetworkCheck.{outcomeOf}
 use Rattle.exports.specs.Codes.{numberOr0}
+use Rattle.exports.proofs.Coded.{coded}
 use Rattle.exports.proofs.network.exports_network_check.Statement.{statement}
 use Rattle.exports.proofs.network.exports_network_check.Tie as tie
 
 returns : tie.Need-returns
-returns c = ap numberOr0 (sym (ap outcomeOf (c .enum-told .given .1)) ∙ c .before .before .network-check .ensures)
+returns c = coded numberOr0 outcomeOf (c .enum-told .given .1) (c .before .before .network-check .ensures)
 
 returns-2 : tie.Need-returns-2
 returns-2 c =
     let told = c .before .before in
-    c .number .ensures ∙ ap numberOr0 (sym (ap outcomeOf (told .refusal .given .1)) ∙ told .before .before .network-check .ensures)
+    c .number .ensures ∙ coded numberOr0 outcomeOf (told .refusal .given .1) (told .before .before .network-check .ensures)
 
 pub exports-network-check-spec : {M : Type 1} → statement M
 exports-network-check-spec =

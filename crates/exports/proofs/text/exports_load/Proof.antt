@@ -12,6 +12,7 @@ use Rattle.townfile.specs.FirstFault.{accepted}
 use Rattle.townfile.specs.Grammar.{Bytes}
 use Rattle.townfile.specs.Load.{Counts, counts, Tables, tables, loadAnswer}
 use Rattle.exports.specs.Codes.{loadCode}
+use Rattle.exports.proofs.Coded.{coded}
 use Rattle.exports.proofs.Fits.{CountsFit, counts-fit}
 use Rattle.exports.proofs.text.exports_load.Statement.{statement}
 use Rattle.exports.proofs.text.exports_load.Tie as tie
@@ -57,7 +58,7 @@ returns-2 : tie.Need-returns-2
 returns-2 c =
     let told = c .before .before in
     let load = called (told .before .before) .load in
-    (rw (c .number .ensures) (ap loadCode (sym (ap readingOf (told .refusal .given .1)) ∙ load .ensures .0)), load .ensures .1)
+    (rw (c .number .ensures) (coded loadCode readingOf (told .refusal .given .1) (load .ensures .0)), load .ensures .1)
 
 pub exports-load-spec : {M : Type 1} → statement M
 exports-load-spec =

@@ -2,17 +2,19 @@
 -- loop's, and where no junction is left to settle the tables are the only ones that satisfy the conditions.
 use borrow.Author.Needs.{needs}
 use Prim.Native.Nat.{_-_, _<_}
-use mathlib.Core.Path.{refl, sym, ap, subst, _∙_}
+use mathlib.Core.Path.{_≡_, refl, sym, ap, subst, _∙_}
 use mathlib.Core.Logic.{⊎-elim}
 use native.Mathlib.Omega.{arith}
-use lib.ListN.{length, set, replicate, length-replicate}
+use lib.ListN.{length, getD, set, replicate, length-replicate}
 use mir.Facts.{fits-widen}
 use denote.Ref.{now}
 use borrow.Author.Tests.{not-true, not-false}
 use Rattle.model.specs.Ticks.{never}
+use Rattle.model.specs.Intervals.{passed}
 use Rattle.model.specs.Labels.{noArc}
 use Rattle.model.specs.Network.{network}
 use Rattle.model.proofs.IntervalWalk.{some-passed}
+use Rattle.model.proofs.Passed.{passed-drop}
 use Rattle.labelling.specs.Labelling.{Linked}
 use Rattle.labelling.proofs.Matches.{equal-keys}
 use Rattle.labelling.proofs.Queue.{Nearest, least-is-nearest}
@@ -64,13 +66,21 @@ nearest c =
 below : (c : tie.After-junction-of Inv-loop2 μ-loop2 Inv-loop μ-loop) → c .junction-of .result < 200
 below c = omega (arith, nearest c .inside, at-loop c .loop .inv .1 .settling .labels-long, start-of (at-loop c) .pre .accepted .junctions-fit)
 
-abbrev junction-at : tie.After-fences-passed-from Inv-loop2 μ-loop2 Inv-loop μ-loop → tie.After-junction-of Inv-loop2 μ-loop2 Inv-loop μ-loop
+abbrev junction-at : tie.After-fences-passed Inv-loop2 μ-loop2 Inv-loop μ-loop → tie.After-junction-of Inv-loop2 μ-loop2 Inv-loop μ-loop
 junction-at c = c .before .before .before .before
 
-interval-known : (c : tie.After-fences-passed-from Inv-loop2 μ-loop2 Inv-loop μ-loop) → 0 < c .fences-passed-from .result
+-- the fences that its label has reached: those of the junction before, and the rest
+passed-are : (c : tie.After-fences-passed Inv-loop2 μ-loop2 Inv-loop μ-loop) →
+    c .fences-passed .result ≡ passed (now (start-of (at-loop (junction-at c)) .args .fences)) (getD (at-loop (junction-at c) .loop .labels) (junction-at c .junction-of .result) 0)
+passed-are c =
+    let j = junction-at c in
+    let before = passed-drop _ _ _ (still-reached (start-of (at-loop j) .pre) (at-loop j .loop .inv .1) (nearest j)) in
+    omega (arith, c .fences-passed .ensures, before)
+
+interval-known : (c : tie.After-fences-passed Inv-loop2 μ-loop2 Inv-loop μ-loop) → 0 < c .fences-passed .result
 interval-known c =
     let a = start-of (at-loop (junction-at c)) .pre .accepted in
-    subst (λ n. 0 < n) (sym (c .fences-passed-from .ensures)) (some-passed _ _ (a .fences-kept) (a .some-interval))
+    subst (λ n. 0 < n) (sym (passed-are c)) (some-passed _ _ (a .fences-kept) (a .some-interval))
 
 -- the arc at hand
 abbrev turn-of : tie.In-loop2 Inv-loop2 μ-loop2 Inv-loop μ-loop → tie.Start Inv-loop2 μ-loop2 Inv-loop μ-loop
@@ -135,11 +145,6 @@ mul-tick c = omega (arith, below (c .before .before))
 slice-read-tick : tie.Need-slice-read-tick Inv-loop2 μ-loop2 Inv-loop μ-loop
 slice-read-tick c = nearest (c .before .before .before) .inside
 
-fences-passed-from-requires : tie.Need-fences-passed-from-requires Inv-loop2 μ-loop2 Inv-loop μ-loop
-fences-passed-from-requires c κs =
-    let j = c .before .before .before in
-    still-reached (start-of (at-loop j) .pre) (at-loop j .loop .inv .1) (nearest j)
-
 sub-interval : tie.Need-sub-interval Inv-loop2 μ-loop2 Inv-loop μ-loop
 sub-interval c = interval-known c
 
@@ -155,7 +160,7 @@ loop2-holds c =
     let (linked, round) = at-loop j .loop .inv in (
       linked,
       turn-starts (start-of (at-loop j) .pre) round (nearest j) (c .before .before .enter2 .ensures) linked
-          (omega (arith, interval-known c, c .fences-passed-from .ensures)),
+          (omega (arith, interval-known c, passed-are c)),
     )
 
 loop-less : tie.Need-loop-less Inv-loop2 μ-loop2 Inv-loop μ-loop
@@ -167,7 +172,7 @@ loop-again : tie.Need-loop-again Inv-loop2 μ-loop2 Inv-loop μ-loop
 loop-again c =
     let f = c .before .before in
     let (linked, turn) = c .before .loop2 .inv in
-    (linked, turn-ends (start-of (at-loop (junction-at f)) .pre) turn (c .loop2-test .left) (omega (arith, f .fences-passed-from .ensures)))
+    (linked, turn-ends (start-of (at-loop (junction-at f)) .pre) turn (c .loop2-test .left) (omega (arith, passed-are f)))
 
 cast-arc : tie.Need-cast-arc Inv-loop2 μ-loop2 Inv-loop μ-loop
 cast-arc c = omega (arith, few c)
@@ -242,7 +247,7 @@ label-all-spec =
     enter-requires-2
     mul-tick
     slice-read-tick
-    fences-passed-from-requires
+    (λ c κs. search needs)
     sub-interval
     mul-a
     array-read-a

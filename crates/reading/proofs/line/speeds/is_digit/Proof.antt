@@ -1,7 +1,6 @@
 -- `line::speeds::is_digit`: by the bounds of the digits.
 use mathlib.Core.Path.{sym}
-use Rattle.reading.proofs.Digits.{below-digits, above-digits}
-use Rattle.reading.proofs.ShortSpeeds.{digit-is}
+use Rattle.reading.proofs.Digits.{digit-is, below-digits, above-digits}
 use Rattle.reading.proofs.line.speeds.is_digit.Statement.{statement}
 use Rattle.reading.proofs.line.speeds.is_digit.Tie as tie
 

@@ -97,26 +97,32 @@ mod exports {
     }
 }
 
+/// Calls a function whose parameters begin with a network, and then go on.
+macro_rules! on_network {
+    ($function:ident, $network:expr, $($argument:expr,)*) => {
+        exports::$function(
+            $network.junctions,
+            $network.fences.as_ptr(),
+            $network.fences.len(),
+            $network.tails.as_ptr(),
+            $network.tails.len(),
+            $network.heads.as_ptr(),
+            $network.heads.len(),
+            $network.lengths.as_ptr(),
+            $network.lengths.len(),
+            $network.speeds.as_ptr(),
+            $network.speeds.len(),
+            $($argument,)*
+        )
+    };
+}
+
 /// Set in Load's answer when it is a refusal.
 const LOAD_REFUSED: u64 = 1 << 63;
 
 pub fn network_check(network: &Network) -> Result<(), Refusal> {
     // SAFETY: each pointer and length belong to one slice lent for the call.
-    let answer = unsafe {
-        exports::exports_network_check(
-            network.junctions,
-            network.fences.as_ptr(),
-            network.fences.len(),
-            network.tails.as_ptr(),
-            network.tails.len(),
-            network.heads.as_ptr(),
-            network.heads.len(),
-            network.lengths.as_ptr(),
-            network.lengths.len(),
-            network.speeds.as_ptr(),
-            network.speeds.len(),
-        )
-    };
+    let answer = unsafe { on_network!(exports_network_check, network,) };
     accepted(answer)
 }
 
@@ -153,18 +159,9 @@ pub fn labels(
     // SAFETY: each pointer and length belong to one slice lent for the call,
     // the last two for writing and to nobody else.
     let answer = unsafe {
-        exports::exports_labels(
-            network.junctions,
-            network.fences.as_ptr(),
-            network.fences.len(),
-            network.tails.as_ptr(),
-            network.tails.len(),
-            network.heads.as_ptr(),
-            network.heads.len(),
-            network.lengths.as_ptr(),
-            network.lengths.len(),
-            network.speeds.as_ptr(),
-            network.speeds.len(),
+        on_network!(
+            exports_labels,
+            network,
             source,
             departure,
             labels.as_mut_ptr(),
@@ -186,18 +183,9 @@ pub fn route(
     // SAFETY: each pointer and length belong to one slice lent for the call,
     // the last for writing and to nobody else.
     let answer = unsafe {
-        exports::exports_route(
-            network.junctions,
-            network.fences.as_ptr(),
-            network.fences.len(),
-            network.tails.as_ptr(),
-            network.tails.len(),
-            network.heads.as_ptr(),
-            network.heads.len(),
-            network.lengths.as_ptr(),
-            network.lengths.len(),
-            network.speeds.as_ptr(),
-            network.speeds.len(),
+        on_network!(
+            exports_route,
+            network,
             source,
             departure,
             destination,

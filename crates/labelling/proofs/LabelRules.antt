@@ -1,5 +1,5 @@
 -- Labels' rules: where a rule is broken, the call is refused and the buffers are as they were; where none is, the plain
--- conditions hold, and the demands hold of the buffers that the calls leave.
+-- conditions hold, and demand 2 holds of the buffers that the call leaves.
 use Prim.Native.Nat.{ℕ}
 use mathlib.Core.Path.{_≡_, refl, sym, ap, _∙_}
 use mathlib.Core.Bool.{true, not, _&&_}
@@ -10,12 +10,11 @@ use borrow.Author.Tests.{not-false, eqb-true, eq-eqb}
 use Rattle.model.specs.Network.{Network, netOf}
 use Rattle.model.specs.Labels.{labelsOf, predecessorsOf}
 use Rattle.model.specs.Rules.{AllKept, Outcome, refused, replied, Rule, firstBroken}
-use Rattle.model.proofs.Demands.{demand-2, demand-3, only-tables-of-network}
+use Rattle.model.proofs.Demands.{demand-2, only-tables-of-network}
 use Rattle.model.proofs.Rules.{kept-replies, replies-kept, refused-at, refused-before, kept-before, kept-append, both-true, true-both}
-use Rattle.labelling.specs.Labelling.{Labelable}
 use Rattle.checking.specs.Question.{questionRules, questionCheck}
 use Rattle.checking.proofs.QuestionRules.{kept-taken, taken-kept}
-use Rattle.labelling.specs.Labels.{bufferRules, labelsAnswer, labelsAfter, predecessorsAfter, LabelsRepliesWhenLabelable, Demand2OfCall, Demand3OfCalls}
+use Rattle.labelling.specs.Labels.{Labelable, bufferRules, labelsAnswer, labelsAfter, predecessorsAfter, LabelsRepliesWhenLabelable, Demand2OfCall}
 
 module _ (N : Network) (source departure : ℕ) (labels predecessors : List ℕ) where
   abbrev answer : Outcome (Unit {0})
@@ -66,7 +65,7 @@ module _ (N : Network) (source departure : ℕ) (labels predecessors : List ℕ)
   labelable-buffers : Labelable N source departure labels predecessors → AllKept buffers
   labelable-buffers q = (ap not (both-true (eq-eqb (length labels) (N .junctions) (q .labels-long)) (eq-eqb (length predecessors) (N .junctions) (q .predecessors-long))), tt)
 
-  answered : answer ≡ replied tt → Labelable N source departure labels predecessors
+  pub answered : answer ≡ replied tt → Labelable N source departure labels predecessors
   unfolding labelsAnswer
   answered e =
       let kept = kept-append (questionRules N source departure) buffers (replies-kept (questionRules N source departure ++ buffers) tt tt e) in
@@ -87,9 +86,3 @@ demand-2-of-call N source departure labels predecessors e =
     let q = answered N source departure labels predecessors e in
     let tables = only-tables-of-network N (q .accepted) source departure (q .source-below) (q .departure-below) (labelsOf (netOf N) source departure) (predecessorsOf (netOf N) source departure) .1 (refl, refl) in
     rw e (demand-2 N (q .accepted) source departure (q .source-below) (q .departure-below), tables .0, tables .1)
-
-pub demand-3-of-calls : Demand3OfCalls
-demand-3-of-calls A B better source early late earlier labels predecessors labels′ predecessors′ a b j h =
-    let q = answered A source late labels predecessors a in
-    let r = answered B source early labels′ predecessors′ b in
-    rw (a, b) (demand-3 A B (q .accepted) (r .accepted) better source early late (q .source-below) earlier (q .departure-below) j h)

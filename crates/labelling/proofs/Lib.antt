@@ -1,3 +1,4 @@
+pub mod Demand3
 pub mod Filled
 pub mod LabelRules
 pub mod Linking

@@ -21,7 +21,8 @@ use Rattle.model.proofs.Networks.{accepted-sound}
 use Rattle.model.proofs.Passed.{passed-monotone}
 use Rattle.model.proofs.Tests.{ltb-cases, eqb-cases}
 use Rattle.driving.specs.ArcKept.{ArcKept}
-use Rattle.labelling.specs.Labelling.{arcFrom, Linked, lowered, taken, Rekeyed, Offerable, Labelable}
+use Rattle.labelling.specs.Labelling.{arcFrom, Linked, lowered, taken, Rekeyed, Offerable}
+use Rattle.labelling.specs.Labels.{Labelable}
 use Rattle.labelling.specs.Tournament.{Least, Entered, keyOf}
 use Rattle.driving.proofs.Flags.{true-not-false}
 use Rattle.labelling.proofs.Linking.{arc-from, arc-from-least}
@@ -101,11 +102,11 @@ module _ {N : Network} {source departure : ℕ} {labels₀ predecessors₀ : Lis
 -- ---- The inner loop
 
 -- An arc of a settled junction; of the junction at hand, one before arc a.
-abbrev Driven : Network → List Bool → ℕ → ℕ → ℕ → Type 0
-Driven N settled junction a b = (b < arcs N) × (getD settled (getD (N .tails) b 0) false ≡ true) × (getD (N .tails) b 0 ≡ junction → b < a)
+abbrev HasOffered : Network → List Bool → ℕ → ℕ → ℕ → Type 0
+HasOffered N settled junction a b = (b < arcs N) × (getD settled (getD (N .tails) b 0) false ≡ true) × (getD (N .tails) b 0 ≡ junction → b < a)
 
 pub record Turn (N : Network) (source departure : ℕ) (settled : List Bool) (junction tick interval a : ℕ) (labels predecessors tree : List ℕ) : Type 0 where
-  pub settling : Settling (netOf N) source departure tick settled (Driven N settled junction a) labels predecessors
+  pub settling : Settling (netOf N) source departure tick settled (HasOffered N settled junction a) labels predecessors
   pub settled-long : length settled ≡ 200
   pub is-junction : junction < N .junctions
   pub junction-settled : getD settled junction false ≡ true
@@ -120,14 +121,14 @@ arc-known N junction p inside same some =
     ⊎-elim (λ e. absurd (some (same ∙ e))) (λ f. rw same (f .0, f .1)) (arc-from (N .tails) junction p inside)
 
 -- Before its first arc, no arc of the junction has offered.
-before-first : (N : Network) (settled : List Bool) (junction : ℕ) {a : ℕ} → a ≡ arcFrom (N .tails) junction 0 → (b : ℕ) → Driven N (set settled junction true) junction a b → Done N settled b
+before-first : (N : Network) (settled : List Bool) (junction : ℕ) {a : ℕ} → a ≡ arcFrom (N .tails) junction 0 → (b : ℕ) → HasOffered N (set settled junction true) junction a b → Done N settled b
 before-first N settled junction same b d =
     by-cases (ℕ-discrete (getD (N .tails) b 0) junction)
     (λ e. absurd (omega (arith, same, d .2 e, arc-from-least (N .tails) junction 0 b (omega arith) (d .0) e)))
     (λ other. sym (getD-set-other settled junction (getD (N .tails) b 0) true false other) ∙ d .1)
 
 -- Up to the next arc of the junction, only arc a is new.
-one-more : (N : Network) (settled : List Bool) (junction a : ℕ) {next : ℕ} → next ≡ arcFrom (N .tails) junction (suc a) → (b : ℕ) → Driven N settled junction next b → Driven N settled junction a b ⊎ (b ≡ a)
+one-more : (N : Network) (settled : List Bool) (junction a : ℕ) {next : ℕ} → next ≡ arcFrom (N .tails) junction (suc a) → (b : ℕ) → HasOffered N settled junction next b → HasOffered N settled junction a b ⊎ (b ≡ a)
 one-more N settled junction a same b d =
     by-cases (ℕ-discrete (getD (N .tails) b 0) junction)
     (λ e.
@@ -238,7 +239,7 @@ module _ {N : Network} {source departure : ℕ} {labels₀ predecessors₀ : Lis
     next-is = linked .next-is a (arc-at .0) ∙ rw (arc-at .1)
 
     goes-on : {labels′ predecessors′ tree′ : List ℕ} →
-        Settling (netOf N) source departure tick settled (Driven N settled junction (getD next a 0)) labels′ predecessors′ →
+        Settling (netOf N) source departure tick settled (HasOffered N settled junction (getD next a 0)) labels′ predecessors′ →
         getD labels′ junction never ≡ tick → Queued tree′ labels′ settled →
         Turn N source departure settled junction tick interval (getD next a 0) labels′ predecessors′ tree′
     goes-on s label queued = record {

@@ -6,10 +6,10 @@ use mathlib.Core.List.{List, [], _∷_}
 use mathlib.Core.Option.{Option, none, some}
 use lib.Dec.{ltb, eqb}
 use lib.ListN.{length, getD, set, drop}
-use Rattle.model.specs.Ticks.{day, never}
+use Rattle.model.specs.Ticks.{never}
 use Rattle.model.specs.Limits.{maxJunctions, maxArcs, maxIntervals}
 use Rattle.model.specs.Labels.{noArc}
-use Rattle.model.specs.Network.{Network, Accepted, arcSpeeds}
+use Rattle.model.specs.Network.{arcSpeeds}
 use Rattle.driving.specs.ArcKept.{ArcKept}
 use Rattle.labelling.specs.Tournament.{Tournament, Entered, keyOf}
 
@@ -62,13 +62,3 @@ pub record Offerable (a head tick interval : ℕ) (fences lengths speeds labels 
   pub has-predecessor : head < length predecessors
   pub kept : ArcKept tick interval (getD lengths a 0) fences (arcSpeeds fences speeds a)
   pub tournament : Tournament tree
-
--- ---- The whole
-
--- What the labelling is handed: an accepted network, a question that it takes, and buffers of the right length.
-pub record Labelable (N : Network) (source departure : ℕ) (labels predecessors : List ℕ) : Type 0 where
-  pub accepted : Accepted N
-  pub source-below : source < N .junctions
-  pub departure-below : departure < day
-  pub labels-long : length labels ≡ N .junctions
-  pub predecessors-long : length predecessors ≡ N .junctions

@@ -1,21 +1,19 @@
 -- "Labels (network, source, departure, lent labels and predecessors). 1 to 8; 9, source not below the junction count; 10,
 -- departure 864,000 or above; 11, either lent buffer not exactly as long as the junction count. Otherwise both buffers hold
 -- every junction's label and predecessor."
-use Prim.Native.Nat.{ℕ, _≤_, _<_}
+use Prim.Native.Nat.{ℕ, _<_}
 use mathlib.Core.Path.{_≡_}
 use mathlib.Core.Bool.{not, _&&_}
 use mathlib.Core.List.{List, [], _∷_, _++_}
 use mathlib.Core.Logic.{_↔_}
 use lib.Dec.{eqb}
 use lib.ListN.{length, getD}
-use Rattle.model.specs.Ticks.{never}
-use Rattle.model.specs.Network.{Network, netOf}
+use Rattle.model.specs.Ticks.{day, never}
+use Rattle.model.specs.Network.{Network, Accepted, netOf}
 use Rattle.model.specs.Labels.{labelsOf, predecessorsOf, Certified, Lowest}
 use Rattle.model.specs.Walks.{Earliest}
-use Rattle.model.specs.Demands.{Improves}
 use Rattle.model.specs.Refusals.{numberOf}
 use Rattle.model.specs.Rules.{Outcome, refused, replied, Rule, _if_, firstBroken, after}
-use Rattle.labelling.specs.Labelling.{Labelable}
 use Rattle.checking.specs.Question.{questionRules}
 use Rattle.labelling.specs.declared.labels.Labelled.{Labelled}
 use Rattle.labelling.specs.declared.labels.Labelled.the-variants.{Written, Refused}
@@ -40,7 +38,15 @@ predecessorsAfter N source departure labels predecessors = after (labelsAnswer N
 
 -- ---- What is proved of it
 
--- Labels replies exactly where the network is accepted, the question is taken and the buffers have the right length.
+-- What Labels asks: an accepted network, a question that it takes, and buffers of the right length.
+pub record Labelable (N : Network) (source departure : ℕ) (labels predecessors : List ℕ) : Type 0 where
+  pub accepted : Accepted N
+  pub source-below : source < N .junctions
+  pub departure-below : departure < day
+  pub labels-long : length labels ≡ N .junctions
+  pub predecessors-long : length predecessors ≡ N .junctions
+
+-- Labels replies exactly then.
 abbrev pub LabelsRepliesWhenLabelable : Type 0
 LabelsRepliesWhenLabelable = (N : Network) (source departure : ℕ) (labels predecessors : List ℕ) →
     (labelsAnswer N source departure labels predecessors ≡ replied tt) ↔ Labelable N source departure labels predecessors
@@ -52,10 +58,3 @@ Demand2OfCall = (N : Network) (source departure : ℕ) (labels predecessors : Li
     Earliest (netOf N) source departure (λ j. getD (labelsAfter N source departure labels predecessors) j never)
     × Certified (netOf N) source departure (labelsAfter N source departure labels predecessors) (predecessorsAfter N source departure labels predecessors)
     × Lowest (netOf N) source (labelsAfter N source departure labels predecessors) (predecessorsAfter N source departure labels predecessors)
-
--- Demand 3 of the buffers that two calls which reply leave, the second on a better network and no later.
-abbrev pub Demand3OfCalls : Type 0
-Demand3OfCalls = (A B : Network) → Improves A B → (source early late : ℕ) → early ≤ late → (labels predecessors labels′ predecessors′ : List ℕ) →
-    labelsAnswer A source late labels predecessors ≡ replied tt → labelsAnswer B source early labels′ predecessors′ ≡ replied tt →
-    (j : ℕ) → j < A .junctions →
-    getD (labelsAfter B source early labels′ predecessors′) j never ≤ getD (labelsAfter A source late labels predecessors) j never

@@ -19,7 +19,7 @@ pub record Better (A B : Net) : Type 0 where
   pub no-later : (a s t : ℕ) → a < A .arcs → s ≤ t → B .drive a s ≤ A .drive a t
 
 module _ {A B : Net} (better : Better A B) {source early late : ℕ} (no-later : early ≤ late) where
-  better-walk : {j t : ℕ} → Arrives A source late j t → (t′ : ℕ) × (t′ ≤ t) × Arrives B source early j t′
+  pub better-walk : {j t : ℕ} → Arrives A source late j t → (t′ : ℕ) × (t′ ≤ t) × Arrives B source early j t′
   better-walk start = (early, no-later, start)
   better-walk (along a {t = t} is-arc w arrives) = go (better-walk w)
     where

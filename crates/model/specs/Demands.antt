@@ -1,5 +1,5 @@
--- Demands 2 and 3 for labels, and that the tables are the only ones, as statements. Their proofs are `demand-2`, `demand-3`
--- and `only-tables-of-network`.
+-- Demand 2 for labels, and that the tables are the only ones, as statements: their proofs are `demand-2` and
+-- `only-tables-of-network`. And when things get better, which is what demand 3 asks: labelling/specs/Demand3 has what it claims.
 use Prim.Native.Nat.{ℕ, _≤_, _<_}
 use mathlib.Core.Path.{_≡_}
 use mathlib.Core.List.{List}
@@ -10,7 +10,7 @@ use Rattle.model.specs.Network.{Network, Accepted, arcs, intervals, spee
 use Rattle.model.specs.Walks.{Earliest}
 use Rattle.model.specs.Labels.{labelsOf, predecessorsOf, Certified, Lowest}
 
--- The label of a junction: the least arrival there of a vehicle that leaves the source at the departure.
+-- "A junction's label is the least arrival over all walks from the source; the source's is the departure."
 abbrev pub label : Network → ℕ → ℕ → ℕ → ℕ
 label N source departure j = getD (labelsOf (netOf N) source departure) j never
 
@@ -27,9 +27,10 @@ OnlyTablesOfNetwork = (N : Network) → Accepted N → (source departure : ℕ) 
     (Certified (netOf N) source departure labels predecessors × Lowest (netOf N) source labels predecessors)
     ↔ ((labels ≡ labelsOf (netOf N) source departure) × (predecessors ≡ predecessorsOf (netOf N) source departure))
 
--- The arrival never becomes later when things get better. The second network has all that the first has, and every change
--- is for the better: more junctions and arcs, no arc longer, none slower in any interval. The first network's junctions and
--- arcs keep their numbers, and the second's further ones follow them.
+-- ---- When things get better
+
+-- The second network has all that the first has, and every change is for the better: more junctions and arcs, no arc longer, none
+-- slower in any interval. The first network's junctions and arcs keep their numbers, and the second's further ones follow them.
 pub record Improves (A B : Network) : Type 0 where
   pub same-fences : A .fences ≡ B .fences
   pub more-junctions : A .junctions ≤ B .junctions
@@ -39,6 +40,10 @@ pub record Improves (A B : Network) : Type 0 where
   pub no-longer : (a : ℕ) → a < arcs A → getD (B .lengths) a 0 ≤ getD (A .lengths) a 0
   pub no-slower : (a k : ℕ) → a < arcs A → k < intervals A → getD (speedsOf A a) k 0 ≤ getD (speedsOf B a) k 0
 
-abbrev pub Demand3 : Type 0
-Demand3 = (A B : Network) → Accepted A → Accepted B → Improves A B → (source early late : ℕ) → source < A .junctions →
-    early ≤ late → late < day → (j : ℕ) → j < A .junctions → label B source early j ≤ label A source late j
+-- "A single claim about two whole networks with all its changes together" asks: both are accepted, the second improves on the first, and the
+-- vehicle leaves no later in the second.
+pub record GetsBetter (A B : Network) (early late : ℕ) : Type 0 where
+  pub first-accepted : Accepted A
+  pub second-accepted : Accepted B
+  pub improves : Improves A B
+  pub leaves-no-later : early ≤ late

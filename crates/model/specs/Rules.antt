@@ -1,4 +1,5 @@
--- How an operation refuses: its rules in the paper's order, each a number and a test, of which the first that is broken counts.
+-- How an operation refuses: its rules "in this order, each over the whole table before the next", each a number and a test, of which the
+-- first that is broken counts.
 use Prim.Native.Nat.{ℕ, _<_}
 use mathlib.Core.Path.{_≡_}
 use mathlib.Core.Logic.{_↔_}
@@ -26,7 +27,7 @@ unfoldable pub firstBroken : {Reply : Type 0} → List Rule → Reply → Outcom
 firstBroken [] reply = replied reply
 firstBroken (rule ∷ rules) reply = cond (rule .broken) (refused (rule .number)) (firstBroken rules reply)
 
--- What a lent table holds afterwards: what is written, or where the call is refused what it held before.
+-- "A refused operation changes no lent table, buffer or text": what a lent table holds afterwards.
 abbrev pub after : {Reply : Type 0} → Outcome Reply → List ℕ → List ℕ → List ℕ
 after (refused number) written before = before
 after (replied reply) written before = written

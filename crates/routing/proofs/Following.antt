@@ -31,7 +31,7 @@ way-at-most tails source predecessors j = arcs-back-at-most (λ a. getD tails a 
 -- ---- One arc back
 
 -- The junction's predecessor is in the tables, and its tail leads on.
-pub record Step (tails : List ℕ) (source : ℕ) (predecessors : List ℕ) (j : ℕ) (arcs : List ℕ) : Type 0 where
+pub record StepBack (tails : List ℕ) (source : ℕ) (predecessors : List ℕ) (j : ℕ) (arcs : List ℕ) : Type 0 where
   pub has-predecessor : j < length predecessors
   pub has-tail : getD predecessors j 0 < length tails
   pub rest : List ℕ
@@ -39,7 +39,7 @@ pub record Step (tails : List ℕ) (source : ℕ) (predecessors : List ℕ) (j :
   pub leads-on : Leads tails source predecessors (getD tails (getD predecessors j 0) 0) rest
 
 module _ {tails : List ℕ} {source : ℕ} {predecessors : List ℕ} where
-  step-of : {j : ℕ} {arcs : List ℕ} → Leads tails source predecessors j arcs → 0 < length arcs → Step tails source predecessors j arcs
+  step-of : {j : ℕ} {arcs : List ℕ} → Leads tails source predecessors j arcs → 0 < length arcs → StepBack tails source predecessors j arcs
   step-of here some = absurd (omega arith)
   step-of (back j {arcs} other inside is-arc rest) some = record {
     has-predecessor = inside;
@@ -68,7 +68,7 @@ pub counting-starts : {tails : List ℕ} {source : ℕ} {predecessors : List ℕ
 counting-starts {arcs} l = record { left = arcs; leads = l; adds-up = omega arith }
 
 module _ {tails : List ℕ} {source : ℕ} {predecessors : List ℕ} {total j count : ℕ} (c : Counting tails source predecessors total j count) where
-  pub counting-step : (j ≡ source → ⊥) → Step tails source predecessors j (c .left)
+  pub counting-step : (j ≡ source → ⊥) → StepBack tails source predecessors j (c .left)
   counting-step other = step-of (c .leads) (some-arc (c .leads) other)
 
   pub counting-more : (j ≡ source → ⊥) → count < total
@@ -109,7 +109,7 @@ writing-starts {count} {back-arcs} {before} l same fits = record {
 }
 
 module _ {tails : List ℕ} {source : ℕ} {predecessors route before arcs : List ℕ} {count j k : ℕ} (w : Writing tails source predecessors route before arcs count j k) where
-  pub writing-step : 0 < k → Step tails source predecessors j (w .left)
+  pub writing-step : 0 < k → StepBack tails source predecessors j (w .left)
   writing-step some = step-of (w .leads) (omega (arith, w .k-left))
 
   pub writing-goes-on : (p : ℕ) → suc p ≡ k → Writing tails source predecessors route before (set arcs p (getD predecessors j 0)) count (getD tails (getD predecessors j 0) 0) p

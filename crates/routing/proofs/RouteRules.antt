@@ -9,15 +9,17 @@ use lib.ListN.{length, drop}
 use lib.Seq.{take-append-seam}
 use borrow.Author.Tests.{not-false, ltb-true, ltb-false, eqb-false, lt-ltb, le-ltb, ne-eqb}
 use Rattle.model.specs.Ticks.{never}
+use Rattle.model.specs.Walks.{start}
 use Rattle.model.specs.Network.{Network, netOf}
 use Rattle.model.specs.Demands.{label}
 use Rattle.model.specs.Routes.{routeOf}
 use Rattle.model.specs.Rules.{replied, Rule, firstBroken, AllKept}
-use Rattle.model.proofs.Routes.{demand-2-of-route}
+use Rattle.model.proofs.Demands.{demand-2}
+use Rattle.model.proofs.Routes.{demand-2-of-route, route-source}
 use Rattle.model.proofs.Rules.{kept-replies, replies-kept, kept-before, kept-append}
 use Rattle.checking.specs.Question.{questionRules}
 use Rattle.checking.proofs.QuestionRules.{kept-taken, taken-kept}
-use Rattle.routing.specs.Route.{destinationRules, foundRules, routeAnswer, Routable, RouteRepliesWhenRoutable, Demand2OfRouteCall, RoomForEveryRoute}
+use Rattle.routing.specs.Route.{destinationRules, foundRules, routeAnswer, Routable, RouteRepliesWhenRoutable, Demand2OfRouteCall, RoomForEveryRoute, RouteToSource}
 
 module _ (N : Network) (source departure destination : ℕ) (arcs : List ℕ) where
   abbrev pub route : List ℕ
@@ -88,3 +90,12 @@ room-for-every-route N source departure destination arcs accepted source-below d
     replies N source departure destination arcs
     (taken-kept N source departure (record { accepted = accepted; source-below = source-below; departure-below = departure-below }))
     destination-below reached (omega (arith, d .1, accepted .junctions-fit))
+
+-- The source is reached, at the departure, by the walk of no arcs, and its route is empty.
+pub route-to-source : RouteToSource
+route-to-source N source departure arcs accepted source-below departure-below =
+    let empty = route-source (netOf N) source departure in
+    let by-start = demand-2 N accepted source departure source-below departure-below .no-sooner source departure start in
+    let taken = taken-kept N source departure (record { accepted = accepted; source-below = source-below; departure-below = departure-below }) in
+    let answer = replies N source departure source arcs taken source-below (λ e. omega arith) (rw empty (omega arith)) ∙ ap (λ way. replied (length way)) empty in
+    (answer, rw (answer, empty))

@@ -84,3 +84,8 @@ abbrev pub RoomForEveryRoute : Type 0
 RoomForEveryRoute = (N : Network) (source departure destination : ℕ) (arcs : List ℕ) → Accepted N → source < N .junctions → departure < day → destination < N .junctions →
     (label N source departure destination ≡ never → ⊥) → 199 ≤ length arcs →
     routeAnswer N source departure destination arcs ≡ replied (length (routeOf (netOf N) source departure destination))
+
+-- "From the source to itself: 0 arcs." The reply is 0 and the list is as it was, however short it is.
+abbrev pub RouteToSource : Type 0
+RouteToSource = (N : Network) (source departure : ℕ) (arcs : List ℕ) → Accepted N → source < N .junctions → departure < day →
+    (routeAnswer N source departure source arcs ≡ replied 0) × (arcsAfter N source departure source arcs ≡ arcs)

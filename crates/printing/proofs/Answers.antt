@@ -1,6 +1,6 @@
--- The text for an input, by its length and by what its first line asks.
+-- The answer to an input, by its length and by what its first line asks; and its text.
 use Prim.Native.Nat.{ℕ, _≤_, _<_}
-use mathlib.Core.Path.{_≡_, refl}
+use mathlib.Core.Path.{_≡_, refl, ap, _∙_}
 use mathlib.Core.Bool.{Bool, true, false, cond, _&&_}
 use mathlib.Core.List.{List}
 use native.Mathlib.Omega.{arith}
@@ -8,22 +8,40 @@ use lib.Dec.{ltb, eqb}
 use lib.ListN.{length, drop}
 use borrow.Author.Tests.{lt-ltb, le-ltb, ltb-true}
 use Rattle.model.proofs.Rules.{true-both}
+use Rattle.townfile.specs.FirstFault.{refusedAt}
 use Rattle.townfile.specs.Lines.{markOf, markAlone, numbersKeep}
 use Rattle.printing.specs.Answer.{refusalText, textOf, townAnswer, answerTo, arrivalsText}
-use Rattle.printing.specs.Question.{markQU, firstLine, asks, sourceIn, departureIn, townStart, askedBy}
+use Rattle.printing.specs.Question.{markQU, firstLine, asks, sourceIn, departureIn, townStart, townText, askedBy}
 use Rattle.printing.specs.declared.question.Asked.the-variants.{Question, Malformed}
 
+-- ---- The answer
+
+module _ (input : List ℕ) where
+  pub answer-too-long : 65536 < length input → answerTo input ≡ refusedAt 20 0
+  unfolding answerTo
+  answer-too-long h = rw (lt-ltb 65536 (length input) h)
+
+  pub answer-not-asked : length input ≤ 65536 → asks input ≡ false → answerTo input ≡ refusedAt 25 0
+  unfolding answerTo
+  answer-not-asked h a = rw (le-ltb 65536 (length input) h, a)
+
+  pub answer-asked : length input ≤ 65536 → asks input ≡ true → answerTo input ≡ townAnswer (townText input) (sourceIn input) (departureIn input)
+  unfolding answerTo
+  answer-asked h a = rw (le-ltb 65536 (length input) h, a)
+
+-- ---- The text, by what the code finds
+
 pub text-too-long : (input : List ℕ) → 65536 < length input → arrivalsText input ≡ refusalText 20 0
-unfolding arrivalsText answerTo
-text-too-long input h = rw (lt-ltb 65536 (length input) h)
+unfolding arrivalsText
+text-too-long input h = ap textOf (answer-too-long input h)
 
 pub text-not-asked : (input : List ℕ) → length input ≤ 65536 → askedBy input ≡ Malformed → arrivalsText input ≡ refusalText 25 0
-unfolding arrivalsText answerTo askedBy
+unfolding arrivalsText askedBy
 text-not-asked input h e = go (asks input) refl e
   where
     go : (test : Bool) → asks input ≡ test → cond test (Question (sourceIn input) (departureIn input) (townStart input)) Malformed ≡ Malformed → arrivalsText input ≡ refusalText 25 0
     go true a e = absurd (let z : _≡_ {A = ℕ} 0 1 = cc in omega arith)
-    go false a e = rw (le-ltb 65536 (length input) h, a)
+    go false a e = ap textOf (answer-not-asked input h a)
 
 -- The town file begins within the input.
 town-inside : (input : List ℕ) → asks input ≡ true → townStart input ≤ length input
@@ -38,7 +56,7 @@ pub record TextAsked (input : List ℕ) (source departure town : ℕ) : Type 0 w
   pub answers : length input ≤ 65536 → arrivalsText input ≡ textOf (townAnswer (drop town input) source departure)
 
 pub text-asked : (input : List ℕ) {source departure town : ℕ} → askedBy input ≡ Question source departure town → TextAsked input source departure town
-unfolding arrivalsText answerTo askedBy
+unfolding arrivalsText askedBy
 text-asked input {source} {departure} {town} e = go (asks input) refl e
   where
     go : (test : Bool) → asks input ≡ test → cond test (Question (sourceIn input) (departureIn input) (townStart input)) Malformed ≡ Question source departure town → TextAsked input source departure town
@@ -46,5 +64,5 @@ text-asked input {source} {departure} {town} e = go (asks input) refl e
         (let same-source : sourceIn input ≡ source = cc in
         let same-departure : departureIn input ≡ departure = cc in
         let same-town : townStart input ≡ town = cc in
-        record { inside = omega (arith, town-inside input a, same-town); answers = λ h. rw (le-ltb 65536 (length input) h, a, same-source, same-departure, same-town) })
+        record { inside = omega (arith, town-inside input a, same-town); answers = λ h. ap textOf (answer-asked input h a) ∙ rw (same-source, same-departure, same-town) })
     go false a e = absurd (let z : _≡_ {A = ℕ} 0 1 = cc in omega arith)

@@ -14,6 +14,7 @@ use Rattle.model.proofs.Tests.{ltb-cases}
 use Rattle.townfile.specs.Bytes.{digit}
 use Rattle.townfile.specs.Numbers.{decimalFrom, decimal}
 use Rattle.townfile.proofs.Between.{every-between}
+use Rattle.townfile.proofs.Lacks.{Lacks}
 use Rattle.townfile.proofs.NumberForm.{number-keeps}
 use Rattle.printing.specs.Digits.{digitsWithin, digitsOf, DigitsGiveNumber, DigitsKeepForm}
 
@@ -65,6 +66,9 @@ within-gives (suc k) n = elim (ltb-cases n 10) [
 pub digits-give-number : DigitsGiveNumber
 unfolding digitsOf
 digits-give-number n = within-gives n n
+
+pub same-digits : (n m : ℕ) → digitsOf n ≡ digitsOf m → n ≡ m
+same-digits n m e = sym (digits-give-number n) ∙ ap decimal e ∙ digits-give-number m
 
 -- ---- How many there are
 
@@ -129,6 +133,14 @@ within-leads (suc k) n h e = elim (ltb-cases n 10) [
       omega (arith, within-leads k (n / 10) (omega arith) first, div-add-mod' n 10, mod-lt n {m = 10} (omega arith))
 ]
 
+digits-between : (n i : ℕ) → i < length (digitsOf n) → (48 ≤ getD (digitsOf n) i 0) × (getD (digitsOf n) i 0 ≤ 57)
+unfolding digitsOf
+digits-between n = every-between 48 57 (digitsOf n) (within-digits n n (omega arith))
+
+-- No smaller byte stands among them.
+pub digits-lack : (byte n : ℕ) → byte < 48 → Lacks byte (digitsOf n)
+digits-lack byte n small i h e = omega (arith, digits-between n i h .0)
+
 zero-alone : (n : ℕ) → n ≡ 0 → length (digitsOf n) ≡ 1
 zero-alone n e = rw (e, digits-one 0 (omega arith))
 
@@ -137,7 +149,7 @@ unfolding digitsOf
 digits-keep-form n h = number-keeps {n = n} (record {
   some-digit = some-within n n;
   few-digits = digits-short n 6 h;
-  digits = every-between 48 57 (digitsOf n) (within-digits n n (omega arith));
+  digits = digits-between n;
   no-leading-zero = λ e. zero-alone n (within-leads n n (omega arith) e);
   value = digits-give-number n;
 })

@@ -20,7 +20,7 @@ use Rattle.townfile.specs.Grammar.{Bytes, Fields}
 use Rattle.townfile.proofs.FieldForm.{upTo-part, pieces-fields, fields-pieces, fields-lack}
 use Rattle.reading.specs.Fields.{lineFrom, filledBy}
 use Rattle.reading.proofs.NumbersLeft.{no-bytes}
-use Rattle.printing.specs.Question.{markQU, firstLine, asks, sourceIn, departureIn, townIn, AsksWhenOfForm}
+use Rattle.printing.specs.Question.{markQU, firstLine, asks, sourceIn, departureIn, townText, QuestionAndText, AsksWhenOfForm}
 use Rattle.printing.proofs.Asking.{marked-line, marked-bytes}
 
 -- What stands before the first line feed, that, and what stands behind it.
@@ -53,19 +53,22 @@ module _ (rest : List ℕ) where
       let as-many : length (map decimal fields) ≡ 2 = length-map fields decimal ∙ eqb-true (length fields) 2 (counted .1) in
       rw (marked-line rest .fields) (rw (two-of (map decimal fields) as-many) at (pieces-fields line (no-bytes (upTo space line) (parts .0)) (parts .1)))
 
-  town-behind : townIn (81 ∷ 85 ∷ rest) ≡ drop (suc (length line)) rest
+  town-behind : townText (81 ∷ 85 ∷ rest) ≡ drop (suc (length line)) rest
   unfolding upTo
   town-behind = let past : suc (suc (length line)) + 1 ≡ suc (suc (suc (length line))) = omega arith in rw past
 
-  asks-form : asks (81 ∷ 85 ∷ rest) ≡ true →
-      (bytes : List ℕ) × Fields bytes (sourceIn (81 ∷ 85 ∷ rest) ∷ departureIn (81 ∷ 85 ∷ rest) ∷ []) × (81 ∷ 85 ∷ rest ≡ 81 ∷ 85 ∷ (bytes ++ (lineFeed ∷ townIn (81 ∷ 85 ∷ rest))))
+  asks-form : asks (81 ∷ 85 ∷ rest) ≡ true → QuestionAndText (81 ∷ 85 ∷ rest) (sourceIn (81 ∷ 85 ∷ rest)) (departureIn (81 ∷ 85 ∷ rest)) (townText (81 ∷ 85 ∷ rest))
   unfolding asks upTo
   asks-form a =
       let input : List ℕ = 81 ∷ 85 ∷ rest in
       let all = true-both (ltb (length (firstLine input)) (length input) && eqb (markOf (firstLine input)) markQU) (markAlone (firstLine input) && numbersKeep 2 (firstLine input)) a in
       let ended = true-both (ltb (length (firstLine input)) (length input)) (eqb (markOf (firstLine input)) markQU) (all .0) in
       let inside : length line < length rest = omega (arith, ltb-true (length (firstLine input)) (length input) (ended .0)) in
-      (line, form-fields (sym (marked-line rest .form) ∙ all .1), rw town-behind (ap {B = List ℕ} (λ r. 81 ∷ 85 ∷ r) (upTo-split lineFeed rest inside)))
+      record {
+        bytes = line;
+        two-fields = form-fields (sym (marked-line rest .form) ∙ all .1);
+        in-all = rw town-behind (ap {B = List ℕ} (λ r. 81 ∷ 85 ∷ r) (upTo-split lineFeed rest inside));
+      }
 
 -- ---- From the grammar to the tests
 
@@ -104,7 +107,7 @@ module _ (source departure : ℕ) (bytes town : List ℕ) (fields : Fields bytes
       let marked : markOf (firstLine written) ≡ markQU = rw first-line-is in
       both-true (both-true (lt-ltb (length (firstLine written)) (length written) inside) (eq-eqb (markOf (firstLine written)) markQU marked)) (marked-line behind .form ∙ filled)
 
-  town-of-form : townIn written ≡ town
+  town-of-form : townText written ≡ town
   town-of-form = town-behind behind ∙ rw (line-is, ← add-one (length bytes), drop-append-add)
 
 -- ---- Both
@@ -116,18 +119,17 @@ mark-asked input a =
     let marked : Bool = eqb (markOf (firstLine input)) markQU in
     eqb-true (markOf (firstLine input)) markQU (true-both ended marked (true-both (ended && marked) (markAlone (firstLine input) && numbersKeep 2 (firstLine input)) a .0) .1)
 
-input-form : (input : List ℕ) → Bytes input → asks input ≡ true →
-    (bytes : List ℕ) × Fields bytes (sourceIn input ∷ departureIn input ∷ []) × (input ≡ 81 ∷ 85 ∷ (bytes ++ (lineFeed ∷ townIn input)))
+input-form : (input : List ℕ) → Bytes input → asks input ≡ true → QuestionAndText input (sourceIn input) (departureIn input) (townText input)
 input-form input bytes a = go (marked-bytes input bytes (mark-asked input a))
   where
-    go : (rest : List ℕ) × (input ≡ 81 ∷ 85 ∷ rest) → (bytes : List ℕ) × Fields bytes (sourceIn input ∷ departureIn input ∷ []) × (input ≡ 81 ∷ 85 ∷ (bytes ++ (lineFeed ∷ townIn input)))
+    go : (rest : List ℕ) × (input ≡ 81 ∷ 85 ∷ rest) → QuestionAndText input (sourceIn input) (departureIn input) (townText input)
     go (rest, e) = rw e (asks-form rest (rw e at a))
 
 pub asks-when-of-form : AsksWhenOfForm
-asks-when-of-form input bytes source departure town = (
+asks-when-of-form input bytes source departure text = (
   (λ asked. rw (asked .1, asked .2, asked .3) at (input-form input bytes (asked .0))),
-  (λ form.
-      let fields = form .1 in
-      let numbers-are = numbers-of-form source departure (form .0) town fields in
-      rw (form .2) (form-asks source departure (form .0) town fields, ap (λ numbers. getD numbers 0 0) numbers-are, ap (λ numbers. getD numbers 1 0) numbers-are, town-of-form source departure (form .0) town fields)),
+  (λ question.
+      let fields = question .two-fields in
+      let numbers-are = numbers-of-form source departure (question .bytes) text fields in
+      rw (question .in-all) (form-asks source departure (question .bytes) text fields, ap (λ numbers. getD numbers 0 0) numbers-are, ap (λ numbers. getD numbers 1 0) numbers-are, town-of-form source departure (question .bytes) text fields)),
 )

@@ -3,6 +3,8 @@ pub mod Asking
 pub mod Digits
 pub mod Forms
 pub mod Lines
+pub mod Meaning
 pub mod Networks
 pub mod Putting
+pub mod ReadBack
 pub mod Towns

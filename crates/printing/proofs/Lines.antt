@@ -13,7 +13,7 @@ use Rattle.model.specs.Ticks.{never}
 use Rattle.model.specs.Labels.{noArc}
 use Rattle.printing.specs.Digits.{digitsOf}
 use Rattle.printing.specs.Answer.{numberUnless, junctionLine, junctionLines, refusalText}
-use Rattle.printing.specs.Putting.{Put, Printable}
+use Rattle.printing.specs.Putting.{Put, TableFits}
 use Rattle.printing.proofs.Digits.{tens, digits-short}
 use Rattle.printing.proofs.Putting.{put-further}
 
@@ -61,8 +61,8 @@ lines-short junction (label ∷ labels) (predecessor ∷ predecessors) few below
     rw (length-append (junctionLine junction label predecessor) (junctionLines (suc junction) labels predecessors))
     (omega (arith, length-line junction label predecessor, digits-short junction 2 (omega arith), number-short never label (below 0 (omega arith)), short 0 (omega arith)))
 
-pub table-fits : {labels predecessors : List ℕ} → Printable labels predecessors → ((j : ℕ) → j < length labels → getD labels j 0 < tens 10) → 21 + length (junctionLines 0 labels predecessors) ≤ 4096
-table-fits {labels} {predecessors} printable below = omega (arith, printable .few, lines-short 0 labels predecessors (omega (arith, printable .few)) below (printable .same-length) (printable .short))
+pub lines-fit : {labels predecessors : List ℕ} → TableFits labels predecessors → ((j : ℕ) → j < length labels → getD labels j 0 < tens 10) → 21 + length (junctionLines 0 labels predecessors) ≤ 4096
+lines-fit {labels} {predecessors} table below = omega (arith, table .few, lines-short 0 labels predecessors (omega (arith, table .few)) below (table .same-length) (table .short))
 
 -- ---- Line by line
 

@@ -22,7 +22,7 @@ use Rattle.townfile.specs.FirstFault.{refusedAt, accepted}
 use Rattle.checking.specs.Question.{startRules}
 use Rattle.labelling.specs.Labels.{bufferRules, labelsAnswer, labelsAfter, predecessorsAfter}
 use Rattle.printing.specs.Answer.{numberUnless, tableText, arrivalsIn, atLineZero, networkAnswer}
-use Rattle.printing.specs.Putting.{Printed, Printable}
+use Rattle.printing.specs.Putting.{Printed, TableFits}
 use Rattle.printing.proofs.Digits.{digits-short}
 use Rattle.printing.proofs.Lines.{dash, no-dash}
 
@@ -62,9 +62,9 @@ module _ (N : Network) (source departure : ℕ) (checked : networkCheck N ≡ re
   pub few-junctions : N .junctions ≤ 200
   few-junctions = keeps .junctions-fit
 
-  pub printable : Printable (labelsOf (netOf N) source departure) (predecessorsOf (netOf N) source departure)
+  pub table-fits : TableFits (labelsOf (netOf N) source departure) (predecessorsOf (netOf N) source departure)
   unfolding labelsOf predecessorsOf
-  printable =
+  table-fits =
       let labels = labelsOf (netOf N) source departure in
       let many = within-length (netOf N) source departure (N .junctions) in
       let predecessor = predecessorOf (netOf N) source labels in
@@ -96,8 +96,8 @@ module _ (N : Network) (source departure : ℕ) (checked : networkCheck N ≡ re
 -- ---- The tables as they stand in the buffers
 
 module _ {labels predecessors labels′ predecessors′ : List ℕ} (same-labels : labels ≡ labels′) (same-predecessors : predecessors ≡ predecessors′) where
-  pub printable-too : Printable labels′ predecessors′ → Printable labels predecessors
-  printable-too p = rw (same-labels, same-predecessors) p
+  pub table-fits-too : TableFits labels′ predecessors′ → TableFits labels predecessors
+  table-fits-too p = rw (same-labels, same-predecessors) p
 
   pub printed-too : {before after : List ℕ} {count : ℕ} → Printed (tableText labels predecessors) before after count → Printed (tableText labels′ predecessors′) before after count
   printed-too p = rw (← same-labels, ← same-predecessors) p

@@ -17,7 +17,7 @@ use Rattle.townfile.specs.Tables.{townOf}
 use Rattle.townfile.specs.declared.progress.Progress.{Progress}
 use Rattle.checking.specs.Question.{startRules}
 use Rattle.printing.specs.Digits.{digitsOf}
-use Rattle.printing.specs.Question.{asks, sourceIn, departureIn, townIn}
+use Rattle.printing.specs.Question.{asks, sourceIn, departureIn, townText}
 
 -- ---- What is answered
 
@@ -49,7 +49,7 @@ unfoldable pub answerTo : List ℕ → Reading Arrivals
 answerTo input =
     cond (ltb 65536 (length input)) (refusedAt 20 0)
     (cond (not (asks input)) (refusedAt 25 0)
-    (townAnswer (townIn input) (sourceIn input) (departureIn input)))
+    (townAnswer (townText input) (sourceIn input) (departureIn input)))
 
 -- ---- How it is printed
 

@@ -1,4 +1,5 @@
 pub mod Answer
 pub mod Digits
+pub mod Meaning
 pub mod Question
 pub mod Putting

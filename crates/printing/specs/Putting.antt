@@ -19,7 +19,7 @@ pub record Printed (text before after : List ℕ) (count : ℕ) : Type 0 where
   pub holds : after ≡ written text before
 
 -- Tables whose lines the buffer has room for.
-pub record Printable (labels predecessors : List ℕ) : Type 0 where
+pub record TableFits (labels predecessors : List ℕ) : Type 0 where
   pub same-length : length predecessors ≡ length labels
   pub few : length labels ≤ 200
   pub short : (j : ℕ) → j < length labels → length (numberUnless noArc (getD predecessors j 0)) ≤ 3

@@ -33,17 +33,22 @@ departureIn input = getD (numbersOf (firstLine input)) 1 0
 abbrev pub townStart : List ℕ → ℕ
 townStart input = length (firstLine input) + 1
 
-abbrev pub townIn : List ℕ → List ℕ
-townIn input = drop (townStart input) input
+abbrev pub townText : List ℕ → List ℕ
+townText input = drop (townStart input) input
 
 -- What the code finds.
 unfoldable pub askedBy : List ℕ → Asked
 askedBy input = cond (asks input) (Question (sourceIn input) (departureIn input) (townStart input)) Malformed
 
+-- The same as the grammar says it: `QU`, the source and the departure as fields, LF, and a text behind them.
+pub record QuestionAndText (input : List ℕ) (source departure : ℕ) (text : List ℕ) : Type 0 where
+  pub bytes : List ℕ
+  pub two-fields : Fields bytes (source ∷ departure ∷ [])
+  pub in-all : input ≡ 81 ∷ 85 ∷ (bytes ++ (lineFeed ∷ text))
+
 -- ---- What is proved of it
 
--- An input of bytes asks exactly where it is `QU`, two fields, LF and a town file.
+-- An input of bytes asks exactly where it is a question and a text.
 abbrev pub AsksWhenOfForm : Type 0
-AsksWhenOfForm = (input : List ℕ) → Bytes input → (source departure : ℕ) (town : List ℕ) →
-    ((asks input ≡ true) × (sourceIn input ≡ source) × (departureIn input ≡ departure) × (townIn input ≡ town))
-    ↔ ((bytes : List ℕ) × Fields bytes (source ∷ departure ∷ []) × (input ≡ 81 ∷ 85 ∷ (bytes ++ (lineFeed ∷ town))))
+AsksWhenOfForm = (input : List ℕ) → Bytes input → (source departure : ℕ) (text : List ℕ) →
+    ((asks input ≡ true) × (sourceIn input ≡ source) × (departureIn input ≡ departure) × (townText input ≡ text)) ↔ QuestionAndText input source departure text

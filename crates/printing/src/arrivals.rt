@@ -8,7 +8,7 @@ ghost use Rattle.model.specs.Rules.{replied, written};
 ghost use Rattle.townfile.specs.Load.{counts, tables, LongEnough, networkAt};
 ghost use Rattle.labelling.specs.Labels.{outcomeOf, labelsAnswer, labelsAfter, predecessorsAfter};
 ghost use Rattle.printing.specs.Answer.{textOf, tableText, networkAnswer, townAnswer, arrivalsText};
-ghost use Rattle.printing.specs.Putting.{Printed, Printable};
+ghost use Rattle.printing.specs.Putting.{Printed, TableFits};
 use crate::put::put_refusal;
 use crate::question::Asked;
 use crate::question::question;
@@ -66,7 +66,7 @@ fn put_parts(
 ) -> usize
     requires { ⌜ junctions ≤ length (now earliest) ⌝ }
     requires { ⌜ junctions ≤ length (now predecessors) ⌝ }
-    requires { ⌜ Printable (take junctions (now earliest)) (take junctions (now predecessors)) ⌝ }
+    requires { ⌜ TableFits (take junctions (now earliest)) (take junctions (now predecessors)) ⌝ }
     ensures { λ r. ⌜ Printed (tableText (take junctions (now (earliest .entry))) (take junctions (now (predecessors .entry)))) (now (output .entry)) (now (output .exit)) r ⌝ }
 {
     let count = junctions as usize;

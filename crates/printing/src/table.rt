@@ -3,7 +3,7 @@ ghost use mathlib.Core.Path.{_≡_};
 ghost use Prim.Native.Nat.{_+_, _≤_};
 ghost use lib.ListN.{length};
 ghost use Rattle.printing.specs.Answer.{junctionLines, tableText};
-ghost use Rattle.printing.specs.Putting.{Put, Printed, Printable};
+ghost use Rattle.printing.specs.Putting.{Put, Printed, TableFits};
 use crate::put::put_line;
 use crate::put::put_text;
 
@@ -29,7 +29,7 @@ fn put_lines(output: &mut [u8; 4096], at: usize, labels: &[u32], predecessors: &
 }
 
 pub(crate) fn put_table(output: &mut [u8; 4096], labels: &[u32], predecessors: &[u16]) -> usize
-    requires { ⌜ Printable (now labels) (now predecessors) ⌝ }
+    requires { ⌜ TableFits (now labels) (now predecessors) ⌝ }
     ensures { λ r. ⌜ Printed (tableText (now (labels .entry)) (now (predecessors .entry))) (now (output .entry)) (now (output .exit)) r ⌝ }
 {
     let lines = put_text(output, 0, b"junction arrival arc\n");

@@ -11,7 +11,7 @@ use Rattle.model.specs.Network.{Network, network, netOf}
 use Rattle.model.specs.Rules.{replied}
 use Rattle.labelling.specs.Labels.{outcomeOf, labelsAnswer}
 use Rattle.labelling.specs.declared.labels.Labelled.the-variants.{Written}
-use Rattle.printing.proofs.Networks.{few-junctions, printable, answer-refused, answer-written, labels-written, predecessors-written, printable-too, printed-too}
+use Rattle.printing.proofs.Networks.{few-junctions, table-fits, answer-refused, answer-written, labels-written, predecessors-written, table-fits-too, printed-too}
 use borrow.Author.Needs.{needs}
 use Rattle.printing.proofs.arrivals.network_arrivals.Statement.{statement}
 use Rattle.printing.proofs.arrivals.network_arrivals.Tie as tie
@@ -47,7 +47,7 @@ label-parts-requires c κs = let start = c .before .before .before .before .befo
 put-parts-requires : tie.Need-put-parts-requires
 put-parts-requires c κs =
     let called = c .before .before .before .before .before .before .before in
-    (omega (arith, few (begun called), called .label-parts .kept .1 .1 .1 .1 .1 .1 .1 .1 .0), (omega (arith, few (begun called), called .label-parts .kept .1 .1 .1 .1 .1 .1 .1 .1 .1 .0), printable-too (labels-are called (c .before .before .before .enum-told .given .1)) (predecessors-are called (c .before .before .before .enum-told .given .1)) (printable (N (begun called)) _ _ (begun called .pre))))
+    (omega (arith, few (begun called), called .label-parts .kept .1 .1 .1 .1 .1 .1 .1 .1 .0), (omega (arith, few (begun called), called .label-parts .kept .1 .1 .1 .1 .1 .1 .1 .1 .1 .0), table-fits-too (labels-are called (c .before .before .before .enum-told .given .1)) (predecessors-are called (c .before .before .before .enum-told .given .1)) (table-fits (N (begun called)) _ _ (begun called .pre))))
 
 returns : tie.Need-returns
 returns c =

@@ -5,7 +5,7 @@ use denote.Ref.{now}
 use Rattle.townfile.specs.Grammar.{Bytes}
 use Rattle.townfile.specs.Load.{counts, Tables, tables}
 use Rattle.townfile.proofs.Held.{same-tables}
-use Rattle.loading.specs.Loads.{readingOf}
+use Rattle.loading.specs.Loaded.{readingOf}
 use Rattle.loading.specs.declared.load.Loaded.the-variants.{Counts}
 use Rattle.printing.proofs.Towns.{TownLoaded, town-refused, town-loaded}
 use borrow.Author.Needs.{needs}

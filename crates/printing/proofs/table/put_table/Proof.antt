@@ -5,16 +5,16 @@ use native.Mathlib.Omega.{arith}
 use lib.ListN.{length, length-append}
 use denote.Ref.{now}
 use Rattle.printing.specs.Answer.{junctionLines, header, tableText}
-use Rattle.printing.proofs.Lines.{table-fits}
+use Rattle.printing.proofs.Lines.{lines-fit}
 use Rattle.printing.proofs.Putting.{put-then, put-printed}
 use Rattle.printing.proofs.table.put_table.Statement.{statement}
 use Rattle.printing.proofs.table.put_table.Tie as tie
 
 fits : (c : tie.After-put-lines-arg) → 21 + length (junctionLines 0 (now (c .before .before .before .before .before .before .args .labels)) (now (c .before .before .before .before .before .before .args .predecessors))) ≤ 4096
-fits c = table-fits (c .before .before .before .before .before .before .pre) (λ j h. omega (arith, c .before .before .before .before .before .shared-slice-known .given j))
+fits c = lines-fit (c .before .before .before .before .before .before .pre) (λ j h. omega (arith, c .before .before .before .before .before .shared-slice-known .given j))
 
 put-lines-requires : tie.Need-put-lines-requires
-put-lines-requires c κs = let printable = c .before .before .before .before .before .before .pre in (printable .same-length, (printable .few, omega (arith, c .before .put-text .ensures .next, fits c)))
+put-lines-requires c κs = let table = c .before .before .before .before .before .before .pre in (table .same-length, (table .few, omega (arith, c .before .put-text .ensures .next, fits c)))
 
 returns : tie.Need-returns
 unfolding tableText

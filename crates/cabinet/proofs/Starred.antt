@@ -19,7 +19,7 @@ use Rattle.model.specs.Rules.{replied, firstBroken, every, riseFrom, fencesKeep
 use Rattle.model.proofs.IntervalWalk.{walk-is-arrival}
 use Rattle.model.proofs.NetworkRules.{accepts-when-kept}
 use Rattle.model.proofs.Rules.{replies-kept, every-at}
-use Rattle.labelling.specs.Labelling.{Labelable}
+use Rattle.labelling.specs.Labels.{Labelable}
 use Rattle.labelling.proofs.LabelRules.{labels-replies-when-labelable}
 use Rattle.driving.specs.ArcArrival.{arcRules}
 use Rattle.driving.proofs.ArcRules.{kept-accepted, replies}

@@ -36,9 +36,9 @@ Holds (refuses text number line) = (lent : Tables) → (loadAnswer text lent ≡
 
 infixr 5 _also_
 -- Every row of a list holds.
-pub data Each : List Row → Type 0 where
-  no-more : Each []
-  _also_ : {row : Row} {rows : List Row} → Holds row → Each rows → Each (row ∷ rows)
+pub data AllHold : List Row → Type 0 where
+  no-more : AllHold []
+  _also_ : {row : Row} {rows : List Row} → Holds row → AllHold rows → AllHold (row ∷ rows)
 
 -- The sample town's lines, without its comment, and with it at the end.
 abbrev pub sampleLines : List (List ℕ)
@@ -84,4 +84,4 @@ starred =
 
 -- The one claim.
 abbrev pub StarredRows : Type 0
-StarredRows = Each starred
+StarredRows = AllHold starred

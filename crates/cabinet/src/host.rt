@@ -3,7 +3,7 @@ ghost use mathlib.Core.Path.{_≡_};
 ghost use Prim.Native.Nat.{_+_};
 ghost use Rattle.model.specs.Refusals.{refusalBase};
 ghost use Rattle.townfile.specs.Load.{counts, tables, LongEnough, networkAt};
-ghost use Rattle.loading.specs.Loads.{readingOf};
+ghost use Rattle.loading.specs.Loaded.{readingOf};
 ghost use Rattle.routing.specs.Route.{outcomeOf, arrivalOf, routeAnswer, routeArrival};
 ghost use Rattle.cabinet.specs.Host.{loadNumber, routeNumber, hostAnswer};
 use loading::load::Loaded;

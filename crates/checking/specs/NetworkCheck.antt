@@ -1,4 +1,4 @@
--- What Network check answers: that the network is accepted, or the number of its refusal.
+-- What Network check answers: the number of its refusal; "otherwise it replies that the network is accepted".
 use Rattle.model.specs.Refusals.{numberOf}
 use Rattle.model.specs.Rules.{Outcome, refused, replied}
 use Rattle.checking.specs.declared.network.NetworkCheck.{NetworkCheck}

@@ -11,7 +11,7 @@ use Rattle.townfile.specs.Grammar.{Bytes, Town, Describes}
 use Rattle.townfile.specs.FirstFault.{accepted, firstFault}
 use Rattle.townfile.specs.Load.{Counts, Tables, countsOfTown, loadAnswer}
 use Rattle.townfile.specs.Name.{namePlace}
-use Rattle.townfile.proofs.Loaded.{load-accepts-when-described}
+use Rattle.townfile.proofs.Load.{load-accepts-when-described}
 use Rattle.townfile.proofs.NamePlace.{name-stands-at-place}
 
 pub record CountsFit (reply : Counts) : Type 0 where

@@ -24,7 +24,7 @@ use Rattle.townfile.specs.Load.{Tables, countsOf, tooShort, loadAnswer}
 use Rattle.townfile.specs.declared.progress.Progress.{Progress}
 use Rattle.townfile.proofs.Marks.{Known, known-mark, town-mark, fences-mark, junction-mark, arc-mark, comment-mark}
 use Rattle.townfile.proofs.Described.{described-town}
-use Rattle.townfile.proofs.Loaded.{load-accepts-when-described}
+use Rattle.townfile.proofs.Load.{load-accepts-when-described}
 use Rattle.townfile.proofs.Pieces.{upTo-has-none}
 use Rattle.reading.specs.Fields.{lineFrom}
 use Rattle.loading.specs.Filling.{EndsInside, FencesLine, ArcLine, Fillable}

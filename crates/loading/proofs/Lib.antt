@@ -1,7 +1,7 @@
 pub mod DigitsTaken
 pub mod Fillable
 pub mod Filling
-pub mod LoadAnswers
+pub mod Loaded
 pub mod MarkedFrom
 pub mod Naming
 pub mod RestLines

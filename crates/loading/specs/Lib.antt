@@ -1,4 +1,4 @@
 pub mod Filling
-pub mod Loads
+pub mod Loaded
 pub mod Naming
 pub mod Scans

@@ -3,7 +3,7 @@ ghost use mathlib.Core.Path.{_≡_};
 ghost use mathlib.Core.Bool.{_||_};
 ghost use lib.Dec.{ltb};
 ghost use Rattle.townfile.specs.Load.{tables, lacksRoom, loadAnswer, tablesAfter};
-ghost use Rattle.loading.specs.Loads.{readingOf};
+ghost use Rattle.loading.specs.Loaded.{readingOf};
 use crate::fill::fill;
 use crate::scan::Scanned;
 use crate::scan::scan;

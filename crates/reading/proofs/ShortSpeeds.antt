@@ -17,7 +17,7 @@ use Rattle.townfile.proofs.Between.{every-between}
 use Rattle.townfile.proofs.NumberForm.{number-keeps}
 use Rattle.reading.specs.Fields.{wordFrom, fieldAt}
 use Rattle.reading.specs.LineSteps.{numbersRead}
-use Rattle.reading.specs.ShortSpeeds.{Reached, SpeedWord, ShortWord, ShortField, ShortRow}
+use Rattle.reading.specs.ShortSpeeds.{ReadTo, SpeedWord, ShortWord, ShortField, ShortRow}
 use Rattle.reading.specs.declared.field.Field.the-variants as field
 use Rattle.reading.specs.declared.line.speeds.ShortRead.{ShortRead}
 use Rattle.reading.specs.declared.line.speeds.ShortRead.the-variants.{To, Unsure}
@@ -26,8 +26,8 @@ use Rattle.reading.proofs.Digits.{digit-is, digit-bounds, digit-word}
 use Rattle.reading.proofs.NumbersLeft.{numbers-within}
 use Rattle.reading.proofs.NumberLoops.{all-left, left-goes-on, none-left}
 
-pub reached-at : (holds : ℕ → Type 0) {read : ShortRead} {end : ℕ} → read ≡ To end → Reached holds read → holds end
-reached-at holds e h = subst (Reached holds) e h
+pub reached-at : (holds : ℕ → Type 0) {read : ShortRead} {end : ℕ} → read ≡ To end → ReadTo holds read → holds end
+reached-at holds e h = subst (ReadTo holds) e h
 
 -- ---- A word of few digits
 
@@ -110,7 +110,7 @@ module _ (text : List ℕ) (first : ℕ) where
 -- ---- A field
 
 pub behind-gap : (text : List ℕ) (at : ℕ) → getD text at 0 ≡ space →
-    (read : ShortRead) → Reached (ShortWord text (at + 1)) read → Reached (ShortField text at) read
+    (read : ShortRead) → ReadTo (ShortWord text (at + 1)) read → ReadTo (ShortField text at) read
 behind-gap text at gap (To end) digits = record { gap = gap; digits = digits }
 behind-gap text at gap Unsure none = none
 

@@ -15,9 +15,9 @@ use Rattle.reading.specs.declared.line.speeds.ShortRead.{ShortRead}
 use Rattle.reading.specs.declared.line.speeds.ShortRead.the-variants.{To, Unsure}
 
 -- What holds of the place that a reading comes to. Of one that cannot tell nothing is said.
-abbrev pub Reached : (ℕ → Type 0) → ShortRead → Type 0
-Reached holds (To end) = holds end
-Reached holds Unsure = Unit
+abbrev pub ReadTo : (ℕ → Type 0) → ShortRead → Type 0
+ReadTo holds (To end) = holds end
+ReadTo holds Unsure = Unit
 
 -- The word from a place on is a speed and ends at another place.
 pub record SpeedWord (text : List ℕ) (first end : ℕ) : Type 0 where

@@ -15,7 +15,7 @@ use Rattle.townfile.specs.Grammar.{Bytes, Town, Describes, networkOf}
 use Rattle.townfile.specs.Tables.{townOf}
 use Rattle.townfile.specs.Load.{Counts, counts, Tables, tables, LongEnough, roomyTables, networkAt, countsOfTown, loadAnswer, holding, tablesAfter}
 use Rattle.townfile.proofs.Described.{described-town}
-use Rattle.townfile.proofs.Loaded.{long-fits, described-answer, load-accepts-when-described}
+use Rattle.townfile.proofs.Load.{long-fits, described-answer, load-accepts-when-described}
 
 -- ---- At the tables' start
 

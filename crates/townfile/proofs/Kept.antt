@@ -18,7 +18,8 @@ use Rattle.townfile.specs.Lines.{endsDiffer}
 
 -- ---- The statement arc by arc and name by name
 
-pub record ArcKept (junctions intervals : ℕ) (arc : Arc) : Type 0 where
+-- An arc passes the tests on it.
+pub record ArcTested (junctions intervals : ℕ) (arc : Arc) : Type 0 where
   pub ends-keep : endsDiffer junctions (arc .tail) (arc .head) ≡ true
   pub length-keeps : lengthKeeps (arc .metres) ≡ true
   pub speeds-keep : every speedKeeps (arc .speeds) ≡ true
@@ -34,7 +35,7 @@ pub record PartsKept (T : Town) : Type 0 where
   pub count-keeps : countKeeps (T .fences) ≡ true
   pub fences-keep : fencesKeep (T .fences) ≡ true
   pub names-kept : NamesFrom (T .junctions) 0 (T .names)
-  pub arcs-kept : Each (ArcKept (T .junctions) (length (T .fences))) (T .arcs)
+  pub arcs-kept : Each (ArcTested (T .junctions) (length (T .fences))) (T .arcs)
   pub arcs-few : length (T .arcs) ≤ maxArcs
 
 -- ---- Arcs
@@ -46,7 +47,7 @@ every-append test (x ∷ xs) ys = rw (every-append test xs ys) (sym (and-assoc (
 
 module _ (junctions intervals : ℕ) where
   arcs-parted : (arcs : List Arc) → endsKeep junctions (map (λ a. a .tail) arcs) (map (λ a. a .head) arcs) ≡ true → every lengthKeeps (map (λ a. a .metres) arcs) ≡ true →
-      every speedKeeps (flatten (map (λ a. a .speeds) arcs)) ≡ true → Each (λ a. length (a .speeds) ≡ intervals) arcs → Each (ArcKept junctions intervals) arcs
+      every speedKeeps (flatten (map (λ a. a .speeds) arcs)) ≡ true → Each (λ a. length (a .speeds) ≡ intervals) arcs → Each (ArcTested junctions intervals) arcs
   unfolding endsKeep every flatten Each
   arcs-parted [] ends lengths speeds counts = tt
   arcs-parted (arc ∷ arcs) ends lengths speeds counts =
@@ -66,7 +67,7 @@ module _ (junctions intervals : ℕ) where
     counts : Each (λ a. length (a .speeds) ≡ intervals) arcs
     count : length (flatten (map (λ a. a .speeds) arcs)) ≡ length arcs * intervals
 
-  arcs-joined : (arcs : List Arc) → Each (ArcKept junctions intervals) arcs → ArcsKept arcs
+  arcs-joined : (arcs : List Arc) → Each (ArcTested junctions intervals) arcs → ArcsKept arcs
   unfolding endsKeep every flatten Each
   arcs-joined [] kept = record { ends = refl; lengths = refl; speeds = refl; counts = tt; count = omega arith }
   arcs-joined (arc ∷ arcs) kept =

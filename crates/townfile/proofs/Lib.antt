@@ -1,14 +1,16 @@
 pub mod Between
 pub mod Comments
 pub mod Described
+pub mod FaultNumbers
 pub mod FieldForm
 pub mod Gathered
 pub mod Held
 pub mod Joined
 pub mod Kept
 pub mod Lacks
+pub mod LineFaults
 pub mod LineForm
-pub mod Loaded
+pub mod Load
 pub mod Marks
 pub mod NameForm
 pub mod NamePlace

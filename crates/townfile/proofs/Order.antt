@@ -1,22 +1,23 @@
 -- What lines say one after another: a list of values is a legal continuation of a progress where each is in its turn, matches the
 -- counts and keeps its limits. Reading lines is accepted exactly where what they say is legal.
-use Prim.Native.Nat.{ℕ, suc, _≤_}
+use Prim.Native.Nat.{ℕ, suc, _≤_, _<_}
 use mathlib.Core.Path.{_≡_, refl, sym, _∙_}
 use mathlib.Core.Bool.{Bool, true, false, cond, _&&_}
 use mathlib.Core.List.{List, [], _∷_, _++_, map}
 use native.Mathlib.Omega.{arith}
 use lib.Dec.{leb, ltb, eqb}
 use lib.ListN.{length}
-use borrow.Author.Tests.{not-false, ltb-false, le-ltb, ne-eqb}
+use borrow.Author.Tests.{not-false, ltb-true, ltb-false, le-ltb, ne-eqb}
 use Rattle.model.specs.Limits.{maxArcs, maxIntervals}
 use Rattle.model.specs.NetworkRules.{junctionsKeep}
 use Rattle.model.specs.Rules.{Outcome, refused, replied, every, fencesKeep, lengthKeeps, speedKeeps}
-use Rattle.model.proofs.Rules.{kept-replies, replies-kept}
-use Rattle.townfile.specs.Grammar.{Bytes, Each, Line, TN, FN, JN, AR, CM, Reads, ReadsAll, no-lines, reads-line}
+use Rattle.model.proofs.Rules.{true-both, kept-replies, replies-kept}
+use Rattle.townfile.specs.Grammar.{Bytes, Arc, Each, Line, TN, FN, JN, AR, CM, Reads, ReadsAll, no-lines, reads-line}
 use Rattle.townfile.specs.Lines.{markOf, byMark, known, inTurn, formKeeps, junctionKeeps, endsDiffer, valuesKeep, lineRules, townRead, fencesRead, junctionRead, arcRead, lineRead, lineAnswer}
+use Rattle.townfile.specs.LineFaults.{CountsMatch}
 use Rattle.townfile.specs.FirstFault.{refusedAt, accepted, atEnd, onward, linesFrom}
 use Rattle.townfile.specs.declared.progress.Progress.{Progress}
-use Rattle.townfile.proofs.Says.{saysOf, markOfSays, CountsMatch}
+use Rattle.townfile.proofs.Says.{saysOf, markOfSays}
 use Rattle.townfile.proofs.LineForm.{form-reads, form-counts, reads-says, reads-mark, reads-form, says-mark}
 
 -- ---- A legal continuation
@@ -28,6 +29,15 @@ saidKeeps p (FN fences) = fencesKeep fences
 saidKeeps p (JN named) = junctionKeeps p (named .number)
 saidKeeps p (AR arc) = endsDiffer (p .junctions) (arc .tail) (arc .head) && lengthKeeps (arc .metres) && every speedKeeps (arc .speeds) && ltb (p .arcs) maxArcs
 saidKeeps p CM = true
+
+-- The limits of an arc, one by one.
+pub arc-limits : (p : Progress) (arc : Arc) → saidKeeps p (AR arc) ≡ true →
+    (endsDiffer (p .junctions) (arc .tail) (arc .head) ≡ true) × (lengthKeeps (arc .metres) ≡ true) × (every speedKeeps (arc .speeds) ≡ true) × (p .arcs < maxArcs)
+arc-limits p arc e =
+    let few = true-both (endsDiffer (p .junctions) (arc .tail) (arc .head) && lengthKeeps (arc .metres) && every speedKeeps (arc .speeds)) (ltb (p .arcs) maxArcs) e in
+    let speeds = true-both (endsDiffer (p .junctions) (arc .tail) (arc .head) && lengthKeeps (arc .metres)) (every speedKeeps (arc .speeds)) (few .0) in
+    let ends = true-both (endsDiffer (p .junctions) (arc .tail) (arc .head)) (lengthKeeps (arc .metres)) (speeds .0) in
+    (ends .0, ends .1, speeds .1, ltb-true (p .arcs) maxArcs (few .1))
 
 -- The progress after a line.
 abbrev pub afterSaid : Progress → Line → Progress
@@ -60,7 +70,7 @@ on-mark : {A B : Type 0} (f : A → B) (mark : ℕ) (town fences junction arc co
     f (byMark mark town fences junction arc comment other) ≡ byMark mark (f town) (f fences) (f junction) (f arc) (f comment) (f other)
 on-mark f mark town fences junction arc comment other = simp (on-cond f)
 
-values-said : (p : Progress) (line : List ℕ) → saidKeeps p (saysOf line) ≡ valuesKeep p line
+pub values-said : (p : Progress) (line : List ℕ) → saidKeeps p (saysOf line) ≡ valuesKeep p line
 unfolding saysOf valuesKeep
 values-said p line = on-mark (saidKeeps p) (markOf line) _ _ _ _ _ _
 

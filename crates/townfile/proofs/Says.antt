@@ -1,12 +1,10 @@
 -- What a line says by its mark, as a function of its bytes.
 use Prim.Native.Nat.{ℕ}
-use mathlib.Core.Path.{_≡_}
 use mathlib.Core.List.{List}
-use lib.ListN.{length, getD}
+use lib.ListN.{getD}
 use Rattle.townfile.specs.Grammar.{Line, TN, FN, JN, AR, CM}
 use Rattle.townfile.specs.Lines.{markTN, markFN, markJN, markAR, markCM, markOf, byMark, numbersOf}
 use Rattle.townfile.specs.Tables.{namedOf, arcOf}
-use Rattle.townfile.specs.declared.progress.Progress.{Progress}
 
 unfoldable pub saysOf : List ℕ → Line
 saysOf line = byMark (markOf line) (TN (getD (numbersOf line) 0 0) (getD (numbersOf line) 1 0)) (FN (numbersOf line)) (JN (namedOf line)) (AR (arcOf line)) CM CM
@@ -17,11 +15,3 @@ markOfSays (FN fences) = markFN
 markOfSays (JN named) = markJN
 markOfSays (AR arc) = markAR
 markOfSays CM = markCM
-
--- "As many as intervals", "one speed per interval": the counts that a line has to match.
-abbrev pub CountsMatch : Progress → Line → Type 0
-CountsMatch p (TN junctions intervals) = Unit {0}
-CountsMatch p (FN fences) = length fences ≡ p .intervals
-CountsMatch p (JN named) = Unit {0}
-CountsMatch p (AR arc) = length (arc .speeds) ≡ p .intervals
-CountsMatch p CM = Unit {0}

@@ -10,14 +10,14 @@ use lib.ListN.{length}
 use borrow.Author.Tests.{ltb-true, leb-true, eqb-true, lt-ltb, le-leb, eq-eqb}
 use Rattle.model.specs.Limits.{maxArcs, maxIntervals}
 use Rattle.model.specs.NetworkRules.{junctionsKeep}
-use Rattle.model.specs.Rules.{every, fencesKeep, lengthKeeps, speedKeeps}
+use Rattle.model.specs.Rules.{fencesKeep}
 use Rattle.model.proofs.Rules.{true-both, both-true}
 use Rattle.townfile.specs.Grammar.{Named, Arc, Town, Each, Line, TN, FN, JN, AR, CM, withoutComments, inOrder}
-use Rattle.townfile.specs.Lines.{endsDiffer, townRead, fencesRead, junctionRead, arcRead}
+use Rattle.townfile.specs.Lines.{townRead, fencesRead, junctionRead, arcRead}
 use Rattle.townfile.specs.FirstFault.{start}
 use Rattle.townfile.specs.declared.progress.Progress.{Progress}
-use Rattle.townfile.proofs.Kept.{ArcKept, NamesFrom, PartsKept}
-use Rattle.townfile.proofs.Order.{Allowed, afterAll, Legal}
+use Rattle.townfile.proofs.Kept.{ArcTested, NamesFrom, PartsKept}
+use Rattle.townfile.proofs.Order.{arc-limits, Allowed, afterAll, Legal}
 
 -- ---- Comments
 
@@ -44,14 +44,12 @@ after-commented p (CM ∷ say) = after-commented p say
 same-turn : (p : Progress) (turn turn′ : ℕ) → p .turn ≡ turn → eqb (p .turn) turn′ ≡ true → turn ≡ turn′
 same-turn p turn turn′ at in-turn = cc (eqb-true (p .turn) turn′ in-turn)
 
-arc-allowed : (p : Progress) (arc : Arc) → Allowed p (AR arc) → ArcKept (p .junctions) (p .intervals) arc × (p .arcs < maxArcs)
+arc-allowed : (p : Progress) (arc : Arc) → Allowed p (AR arc) → ArcTested (p .junctions) (p .intervals) arc × (p .arcs < maxArcs)
 arc-allowed p arc allowed =
-    let few = true-both (endsDiffer (p .junctions) (arc .tail) (arc .head) && lengthKeeps (arc .metres) && every speedKeeps (arc .speeds)) (ltb (p .arcs) maxArcs) (allowed .keeps) in
-    let speeds = true-both (endsDiffer (p .junctions) (arc .tail) (arc .head) && lengthKeeps (arc .metres)) (every speedKeeps (arc .speeds)) (few .0) in
-    let ends = true-both (endsDiffer (p .junctions) (arc .tail) (arc .head)) (lengthKeeps (arc .metres)) (speeds .0) in
-    (record { ends-keep = ends .0; length-keeps = ends .1; speeds-keep = speeds .1; per-interval = allowed .counts-match }, ltb-true (p .arcs) maxArcs (few .1))
+    let limits = arc-limits p arc (allowed .keeps) in
+    (record { ends-keep = limits .0; length-keeps = limits .1; speeds-keep = limits .2; per-interval = allowed .counts-match }, limits .3)
 
-allowed-arc : (p : Progress) (arc : Arc) → 2 ≤ p .turn → ArcKept (p .junctions) (p .intervals) arc → p .arcs < maxArcs → Allowed p (AR arc)
+allowed-arc : (p : Progress) (arc : Arc) → 2 ≤ p .turn → ArcTested (p .junctions) (p .intervals) arc → p .arcs < maxArcs → Allowed p (AR arc)
 allowed-arc p arc turn kept few = record {
   in-turn = le-leb 2 (p .turn) turn;
   counts-match = kept .per-interval;
@@ -68,7 +66,7 @@ name-allowed p named allowed =
 record ArcsLeft (junctions intervals before : ℕ) (lines : List Line) : Type 0 where
   arcs : List Arc
   order : lines ≡ map AR arcs
-  kept : Each (ArcKept junctions intervals) arcs
+  kept : Each (ArcTested junctions intervals) arcs
   few : before + length arcs ≤ maxArcs
 
 record NamesLeft (p : Progress) (lines : List Line) : Type 0 where
@@ -173,13 +171,13 @@ legal-town say legal = left-town (withoutComments say) (town-left start say refl
 
 -- ---- From a town to legal lines
 
-arcs-legal : (p : Progress) (arcs : List Arc) → 2 ≤ p .turn → Each (ArcKept (p .junctions) (p .intervals)) arcs → p .arcs + length arcs ≤ maxArcs → Legal p (map AR arcs)
+arcs-legal : (p : Progress) (arcs : List Arc) → 2 ≤ p .turn → Each (ArcTested (p .junctions) (p .intervals)) arcs → p .arcs + length arcs ≤ maxArcs → Legal p (map AR arcs)
 unfolding Legal Each
 arcs-legal p [] turn kept few = turn
 arcs-legal p (arc ∷ arcs) turn kept few = (allowed-arc p arc turn (kept .0) (omega arith), arcs-legal (arcRead p) arcs (omega arith) (kept .1) (omega arith))
 
 names-legal : (p : Progress) (names : List Named) (arcs : List Arc) → p .turn ≡ 2 → NamesFrom (p .junctions) (p .unnamed) names →
-    Each (ArcKept (p .junctions) (p .intervals)) arcs → p .arcs + length arcs ≤ maxArcs → Legal p (map JN names ++ map AR arcs)
+    Each (ArcTested (p .junctions) (p .intervals)) arcs → p .arcs + length arcs ≤ maxArcs → Legal p (map JN names ++ map AR arcs)
 unfolding Legal NamesFrom
 names-legal p [] arcs turn named kept few = arcs-legal p arcs (omega arith) kept few
 names-legal p (name ∷ names) arcs turn named kept few = (

@@ -93,3 +93,8 @@ abbrev pub LoadAcceptsWhenDescribed : Type 0
 LoadAcceptsWhenDescribed = (text : List ℕ) → Bytes text → (lent : Tables) (reply : Counts) →
     (loadAnswer text lent ≡ accepted reply)
     ↔ ((T : Town) × Describes text T × LongEnough (countsOfTown T) lent × (reply ≡ countsOfTown T) × (tablesAfter text lent ≡ holding (networkOf T) lent))
+
+-- 28 is said, at line 0, exactly of a text that describes a town for which a lent table is too short.
+abbrev pub TooShortWhenDescribed : Type 0
+TooShortWhenDescribed = (text : List ℕ) → Bytes text → (lent : Tables) (line : ℕ) →
+    (loadAnswer text lent ≡ refusedAt 28 line) ↔ ((line ≡ 0) × ((T : Town) × Describes text T × (LongEnough (countsOfTown T) lent → ⊥)))

@@ -1,4 +1,5 @@
--- The town that a text's lines give, field by field, and the tables it fills.
+-- The town that a text's lines give, by their marks: "`TN` junction count, interval count. `FN` the fences, as many as intervals. `JN` junction
+-- number, then a name (..). `AR` tail, head, length, then one speed per interval."
 use Prim.Native.Nat.{ℕ, _≤_}
 use mathlib.Core.Path.{_≡_}
 use mathlib.Core.Bool.{cond}

@@ -10,7 +10,7 @@ ghost use Rattle.model.specs.Rules.{every, speedKeeps};
 ghost use Rattle.townfile.specs.Bytes.{digit};
 ghost use Rattle.townfile.specs.Numbers.{decimal};
 ghost use Rattle.reading.specs.LineSteps.{numbersRead};
-ghost use Rattle.reading.specs.ShortSpeeds.{Reached, ShortWord, ShortField, ShortRow};
+ghost use Rattle.reading.specs.ShortSpeeds.{ReadTo, ShortWord, ShortField, ShortRow};
 use crate::field::Field;
 use crate::field::read_field;
 use crate::line::Numbers;
@@ -52,7 +52,7 @@ fn short_digits(text: &[u8], first: usize) -> ShortRead
     requires { ⌜ first + 3 ≤ length (now text) ⌝ }
     requires { ⌜ 49 ≤ getD (now text) first 0 ⌝ }
     requires { ⌜ getD (now text) first 0 < 58 ⌝ }
-    ensures { λ r. ⌜ Reached (ShortWord (now (text .entry)) first) r ⌝ }
+    ensures { λ r. ⌜ ReadTo (ShortWord (now (text .entry)) first) r ⌝ }
 {
     if !is_digit(text[first + 1]) {
         return ShortRead::To(first + 1);
@@ -69,7 +69,7 @@ fn short_digits(text: &[u8], first: usize) -> ShortRead
 // A space and a speed.
 fn short_speed(text: &[u8], at: usize) -> ShortRead
     requires { ⌜ at + 4 ≤ length (now text) ⌝ }
-    ensures { λ r. ⌜ Reached (ShortField (now (text .entry)) at) r ⌝ }
+    ensures { λ r. ⌜ ReadTo (ShortField (now (text .entry)) at) r ⌝ }
 {
     if text[at] != SPACE {
         return ShortRead::Unsure;
@@ -85,7 +85,7 @@ fn short_speed(text: &[u8], at: usize) -> ShortRead
 
 // The whole row up to its line feed, where the text has bytes enough for the longest one.
 fn short_speeds(text: &[u8], at: usize, count: u32) -> ShortRead
-    ensures { λ r. ⌜ Reached (ShortRow (now (text .entry)) at count) r ⌝ }
+    ensures { λ r. ⌜ ReadTo (ShortRow (now (text .entry)) at count) r ⌝ }
 {
     if text.len() <= at {
         return ShortRead::Unsure;

@@ -6,7 +6,7 @@ use mathlib.Core.Option.{Option}
 use denote.Ref.{now}
 use Rattle.model.specs.Network.{Network}
 use Rattle.model.specs.Rules.{Outcome}
-use Rattle.loading.specs.Loads.{readingOf}
+use Rattle.loading.specs.Loaded.{readingOf}
 use Rattle.routing.specs.Route.{outcomeOf, arrivalOf, routeAnswer, routeArrival}
 use Rattle.townfile.specs.FirstFault.{accepted}
 use Rattle.townfile.specs.Grammar.{Bytes, networkOf}

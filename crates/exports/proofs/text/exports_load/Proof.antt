@@ -7,7 +7,7 @@ use mathlib.Core.List.{List}
 use native.Mathlib.Omega.{arith}
 use denote.Ref.{now}
 use Rattle.model.proofs.Refusals.{number-fits}
-use Rattle.loading.specs.Loads.{readingOf}
+use Rattle.loading.specs.Loaded.{readingOf}
 use Rattle.townfile.specs.FirstFault.{accepted}
 use Rattle.townfile.specs.Grammar.{Bytes}
 use Rattle.townfile.specs.Load.{Counts, counts, Tables, tables, loadAnswer}

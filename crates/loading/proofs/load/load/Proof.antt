@@ -8,7 +8,7 @@ use Rattle.townfile.specs.FirstFault.{accepted, firstFault}
 use Rattle.townfile.specs.Load.{Tables, tables, countsOf, tooShort}
 use Rattle.loading.specs.Scans.{readingOf}
 use Rattle.loading.proofs.Fillable.{accepted-fillable}
-use Rattle.loading.proofs.LoadAnswers.{load-refused, load-short, load-filled, table-by-table}
+use Rattle.loading.proofs.Loaded.{load-refused, load-short, load-filled, table-by-table}
 use Rattle.loading.proofs.load.load.Statement.{statement}
 use Rattle.loading.proofs.load.load.Tie as tie
 

@@ -1,4 +1,4 @@
--- What Load answers: the counts, or the refusal's number and line.
+-- What Load answers: the refusal's number and line; "otherwise the junction, interval and arc counts".
 use Rattle.model.specs.Refusals.{numberOf}
 use Rattle.townfile.specs.FirstFault.{Reading, refusedAt, accepted}
 use Rattle.townfile.specs.Load.{Counts, counts}

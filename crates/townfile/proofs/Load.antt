@@ -1,4 +1,5 @@
--- Load accepts a text that describes a town where the tables are long enough: the counts that it ends with are the town's.
+-- Load accepts a text that describes a town where the tables are long enough: the counts that it ends with are the town's. Where they
+-- are not it says 28, and of no other text, since no fault of a text has that number.
 use Prim.Native.Nat.{ℕ, _*_}
 use mathlib.Core.Path.{_≡_, refl, sym, ap, _∙_}
 use mathlib.Core.Bool.{Bool, true, false, cond, _||_}
@@ -9,11 +10,12 @@ use borrow.Author.Tests.{ltb-false, le-ltb}
 use Rattle.model.specs.Network.{arcs, intervals}
 use Rattle.townfile.specs.Grammar.{Bytes, Town, networkOf, inOrder, Describes}
 use Rattle.townfile.specs.FirstFault.{Reading, refusedAt, accepted, start, firstFault}
-use Rattle.townfile.specs.Load.{Counts, Tables, countsOf, tooShort, intoTables, loadAnswer, holding, tablesAfter, LongEnough, countsOfTown, LoadAcceptsWhenDescribed}
+use Rattle.townfile.specs.Load.{Counts, Tables, countsOf, tooShort, intoTables, loadAnswer, holding, tablesAfter, LongEnough, countsOfTown, LoadAcceptsWhenDescribed, TooShortWhenDescribed}
 use Rattle.townfile.specs.declared.progress.Progress.{Progress}
 use Rattle.townfile.proofs.Order.{afterAll}
 use Rattle.townfile.proofs.Turns.{town-counted}
 use Rattle.townfile.proofs.Described.{described-faultless, described-town, faultless-described}
+use Rattle.townfile.proofs.FaultNumbers.{text-fault}
 
 -- ---- Long enough
 
@@ -100,4 +102,36 @@ load-accepts-when-described text bytes lent counts = (
       let answer = answer-accepted (countsOfTown T) counts lent (sym (described-answer lent (found .1)) ∙ e) in
       (T, found .1, fits-long T lent (answer .0), answer .1, holds-town lent counts (found .1) e)),
   (λ loaded. described-answer lent (loaded .1) ∙ rw (long-fits (loaded .0) lent (loaded .2), loaded .3)),
+)
+
+too-short-answer : (counts : Counts) (lent : Tables) (line : ℕ) → answerFor counts lent ≡ refusedAt 28 line → (tooShort counts lent ≡ true) × (line ≡ 0)
+too-short-answer counts lent line e = go (tooShort counts lent) refl e
+  where
+    go : (test : Bool) → tooShort counts lent ≡ test → cond test (refusedAt 28 0) (accepted counts) ≡ refusedAt 28 line → (tooShort counts lent ≡ true) × (line ≡ 0)
+    go true t e = (t, cc)
+    go false t e = absurd (let z : _≡_ {A = ℕ} 0 1 = cc in omega arith)
+
+not-long : (T : Town) (lent : Tables) → (LongEnough (countsOfTown T) lent → ⊥) → tooShort (countsOfTown T) lent ≡ true
+not-long T lent short = go (tooShort (countsOfTown T) lent) refl
+  where
+    go : (test : Bool) → tooShort (countsOfTown T) lent ≡ test → test ≡ true
+    go true t = refl
+    go false t = absurd (short (fits-long T lent t))
+
+described-when-short : {text : List ℕ} (lent : Tables) (line : ℕ) → Bytes text → loadAnswer text lent ≡ refusedAt 28 line → (T : Town) × Describes text T
+unfolding loadAnswer
+described-when-short {text} lent line bytes e = go (firstFault text) refl e
+  where
+    go : (reading : Reading Progress) → firstFault text ≡ reading → intoTables reading lent ≡ refusedAt 28 line → (T : Town) × Describes text T
+    go (refusedAt number at) r e = absurd (let same : number ≡ 28 = cc in omega (arith, text-fault text number at r .1))
+    go (accepted p) r e = faultless-described bytes r
+
+pub too-short-when-described : TooShortWhenDescribed
+too-short-when-described text bytes lent line = (
+  (λ e.
+      let found = described-when-short lent line bytes e in
+      let T = found .0 in
+      let answer = too-short-answer (countsOfTown T) lent line (sym (described-answer lent (found .1)) ∙ e) in
+      (answer .1, (T, found .1, (λ long. let z : true ≡ false = sym (answer .0) ∙ long-fits T lent long in let y : _≡_ {A = ℕ} 0 1 = cc in omega arith)))),
+  (λ short. described-answer lent (short .1 .1) ∙ rw (not-long (short .1 .0) lent (short .1 .2), short .0)),
 )

@@ -5,4 +5,5 @@ pub mod Forms
 pub mod Lines
 pub mod Networks
 pub mod Putting
+pub mod Status
 pub mod Towns

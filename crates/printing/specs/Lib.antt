@@ -2,3 +2,4 @@ pub mod Answer
 pub mod Digits
 pub mod Question
 pub mod Putting
+pub mod Status

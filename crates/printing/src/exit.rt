@@ -4,6 +4,7 @@ ghost use lib.IntN.{pos};
 ghost use Rattle.printing.specs.Status.{statusOf};
 
 const ANSWERED: i32 = 0;
+
 const REFUSED: i32 = 1;
 
 // A refusal's text is the one that begins with an r.

@@ -2,7 +2,7 @@
 
 # Proves and builds the program arrivals, and asks it about the example towns.
 run:
-	rt check arrivals
+	programs/build arrivals
 	examples/run
 
 # The gate: prove everything from nothing, try the must-fail edits, run the programs and the tests.
@@ -15,15 +15,15 @@ prove:
 
 # Measures the operations beside the Rust program's: the tables of docs/BENCHMARK.md.
 bench:
-	rt staticlib exports > /dev/null
-	rt staticlib cabinet > /dev/null
+	tests/quietly rt staticlib exports
+	tests/quietly rt staticlib cabinet
 	cargo run --release --offline --quiet --manifest-path compare/Cargo.toml --bin bench
 
 # Compares with the Rust program on ever new inputs: make soak SEED=7 MINUTES=10
 SEED = 1
 MINUTES = 5
 soak:
-	rt staticlib exports > /dev/null
-	rt staticlib cabinet > /dev/null
-	rt check arrivals > /dev/null
+	tests/quietly rt staticlib exports
+	tests/quietly rt staticlib cabinet
+	tests/quietly programs/build arrivals
 	cargo run --release --offline --quiet --manifest-path compare/Cargo.toml --bin soak -- $(SEED) $(MINUTES)

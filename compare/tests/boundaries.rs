@@ -2,7 +2,8 @@
 
 use compare::cabinet;
 use compare::comparison::answers::{self, TableLengths};
-use compare::comparison::{Difference, Outcome, program};
+use compare::comparison::program::{self, Run};
+use compare::comparison::{Difference, Outcome};
 use compare::inputs::OwnedNetwork;
 use compare::inputs::texts::{pad, town_text};
 use compare::inputs::towns::{DEPARTURE, SOURCE, Town};
@@ -10,26 +11,24 @@ use compare::reference::limits::{MAX_TEXT, REFUSED, UNREACHED};
 
 #[test]
 fn program_input() {
-    let printed = |input: &[u8]| String::from_utf8_lossy(&program::run(input)).into_owned();
     let mut input = b"QU 0 0\nTN 2 1\nFN 0\n".to_vec();
-    let answer = "junction arrival arc\n0 0 -\n1 - -\n";
-    assert_eq!(printed(&input), answer);
+    let answer = Run::ended("junction arrival arc\n0 0 -\n1 - -\n", 0);
+    assert_eq!(program::run(&input), answer);
     pad(&mut input, 65_536);
-    assert_eq!(printed(&input), answer);
+    assert_eq!(program::run(&input), answer);
     input.push(b'X');
-    assert_eq!(printed(&input), "refused 20 line 0\n");
-    assert_eq!(printed(b""), "refused 25 line 0\n");
-    assert_eq!(printed(b"QU 0 0"), "refused 25 line 0\n");
-    assert_eq!(printed(b"QU 0 0\n"), "refused 27 line 1\n");
-    assert_eq!(printed(b"QU 2 864000\nTN 2 1\nFN\n"), "refused 25 line 2\n");
-    assert_eq!(
-        printed(b"QU 2 864000\nTN 2 1\nFN 0\n"),
-        "refused 9 line 0\n"
-    );
-    assert_eq!(
-        printed(b"QU 1 864000\nTN 2 1\nFN 0\n"),
-        "refused 10 line 0\n"
-    );
+    let refusals: [(&[u8], &str); 7] = [
+        (&input, "refused 20 line 0\n"),
+        (b"", "refused 25 line 0\n"),
+        (b"QU 0 0", "refused 25 line 0\n"),
+        (b"QU 0 0\n", "refused 27 line 1\n"),
+        (b"QU 2 864000\nTN 2 1\nFN\n", "refused 25 line 2\n"),
+        (b"QU 2 864000\nTN 2 1\nFN 0\n", "refused 9 line 0\n"),
+        (b"QU 1 864000\nTN 2 1\nFN 0\n", "refused 10 line 0\n"),
+    ];
+    for (input, printed) in refusals {
+        assert_eq!(program::run(input), Run::ended(printed, 1));
+    }
 }
 
 #[test]

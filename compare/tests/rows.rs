@@ -1,6 +1,6 @@
 //! The reckonings that document 01 keeps, put to the library and the reference.
 
-use compare::comparison::program;
+use compare::comparison::program::{self, Run};
 use compare::inputs::examples::{TABLE_1, TOWN, TOWN_TEXT};
 use compare::operations::{CABINET, Operations, REFERENCE};
 use compare::reference::limits::{NO_ARC, REFUSED};
@@ -78,9 +78,9 @@ fn the_town() {
 
 #[test]
 fn the_program() {
-    let printed = program::run(format!("QU 0 10\n{TOWN_TEXT}").as_bytes());
+    let run = program::run(format!("QU 0 10\n{TOWN_TEXT}").as_bytes());
     let expected = "junction arrival arc\n0 10 -\n1 60 0\n2 100 1\n";
-    assert_eq!(String::from_utf8_lossy(&printed), expected);
+    assert_eq!(run, Run::ended(expected, 0));
 }
 
 #[test]

@@ -3,7 +3,7 @@
 use std::fmt::Debug;
 
 use super::lent::Lent;
-use super::program;
+use super::program::{self, Run};
 use super::{Difference, Outcome};
 use crate::inputs::OwnedNetwork;
 use crate::operations::{CABINET, Operations, REFERENCE};
@@ -220,24 +220,31 @@ pub fn host_question(
     })
 }
 
-/// Compares what the program prints with what the reference would.
+/// Compares what the program prints with what the reference would, and its exit
+/// status with 0 for a table and 1 for a refusal.
 pub fn arrivals(input: &[u8]) -> Result<Outcome, Difference> {
-    let expected = String::from_utf8_lossy(&reference::arrivals_text(input)).into_owned();
-    let found = String::from_utf8_lossy(&program::run(input)).into_owned();
-    if found != expected {
-        return Err(Difference {
-            question: "the program arrivals".to_owned(),
-            input: input.to_vec(),
-            expected,
-            found,
-        });
+    let printed = String::from_utf8_lossy(&reference::arrivals_text(input)).into_owned();
+    let outcome = printed_outcome(&printed);
+    let expected = Run::ended(&printed, i32::from(outcome != Outcome::Answered));
+    let found = program::run(input);
+    if found == expected {
+        return Ok(outcome);
     }
-    let mut words = found.split_whitespace();
-    Ok(match words.next() {
+    Err(Difference {
+        question: "the program arrivals".to_owned(),
+        input: input.to_vec(),
+        expected: format!("{expected:?}"),
+        found: format!("{found:?}"),
+    })
+}
+
+fn printed_outcome(printed: &str) -> Outcome {
+    let mut words = printed.split_whitespace();
+    match words.next() {
         Some("refused") => {
             let number = words.next().and_then(|number| number.parse().ok());
             Outcome::Refused(Refusal(number.expect("the reference prints a number")))
         }
         _ => Outcome::Answered,
-    })
+    }
 }

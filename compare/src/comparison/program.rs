@@ -1,4 +1,5 @@
-//! The built program `arrivals`, through standard input and output.
+//! The built program `arrivals`, through standard input, standard output and
+//! its exit status.
 
 use std::env;
 use std::io::Write;
@@ -8,11 +9,28 @@ use std::process::{Command, Stdio};
 /// Where the program stands unless the environment's ARRIVALS says otherwise.
 const BUILT: &str = concat!(env!("CARGO_MANIFEST_DIR"), "/../target/bin/arrivals");
 
-/// Returns what the program prints for this input.
-pub fn run(input: &[u8]) -> Vec<u8> {
+/// What the program printed, and its exit status; none where a signal ended it.
+#[derive(Debug, PartialEq)]
+pub struct Run {
+    pub printed: String,
+    pub status: Option<i32>,
+}
+
+impl Run {
+    /// Of a program that ended by itself.
+    pub fn ended(printed: &str, status: i32) -> Self {
+        Self {
+            printed: printed.to_owned(),
+            status: Some(status),
+        }
+    }
+}
+
+/// Runs the program on this input.
+pub fn run(input: &[u8]) -> Run {
     let program = env::var_os("ARRIVALS").map_or_else(|| BUILT.into(), PathBuf::from);
-    let printed = run_program(&program, input);
-    printed.unwrap_or_else(|error| {
+    let run = run_program(&program, input);
+    run.unwrap_or_else(|error| {
         panic!(
             "cannot run {}: {error}; build the program first, or set ARRIVALS",
             program.display()
@@ -20,7 +38,7 @@ pub fn run(input: &[u8]) -> Vec<u8> {
     })
 }
 
-fn run_program(program: &Path, input: &[u8]) -> std::io::Result<Vec<u8>> {
+fn run_program(program: &Path, input: &[u8]) -> std::io::Result<Run> {
     let mut child = Command::new(program)
         .stdin(Stdio::piped())
         .stdout(Stdio::piped())
@@ -30,5 +48,9 @@ fn run_program(program: &Path, input: &[u8]) -> std::io::Result<Vec<u8>> {
     // pipe; what it prints is judged all the same.
     let _ = stdin.write_all(input);
     drop(stdin);
-    Ok(child.wait_with_output()?.stdout)
+    let output = child.wait_with_output()?;
+    Ok(Run {
+        printed: String::from_utf8_lossy(&output.stdout).into_owned(),
+        status: output.status.code(),
+    })
 }

@@ -7,4 +7,5 @@ pub mod Meaning
 pub mod Networks
 pub mod Putting
 pub mod ReadBack
+pub mod Status
 pub mod Towns

@@ -3,3 +3,4 @@ pub mod Digits
 pub mod Meaning
 pub mod Question
 pub mod Putting
+pub mod Status

@@ -1,6 +1,7 @@
 // What the program `arrivals` prints for an input, put into a lent buffer. Reading the input and writing the output are the
 // program's.
 pub mod arrivals;
+pub mod exit;
 mod put;
 mod question;
 mod table;

@@ -6,6 +6,8 @@ use libc::STDOUT_FILENO;
 use loading::load::Loaded;
 use loading::load::load;
 use loading::name::name;
+use streams::input::read_all;
+use streams::transfer::Transfer;
 
 // Longer than any file that Load takes, so that a longer one is seen to be longer.
 const ROOM: usize = 65_538;
@@ -221,8 +223,11 @@ fn print_file(path: &[u8]) {
         return;
     }
     let mut buffer = [0u8; ROOM];
-    let length = io::read_full(file, &mut buffer);
+    let read = read_all(file, path, &mut buffer);
     libc::close(file);
+    let Transfer::Bytes(length) = read else {
+        return;
+    };
     print_block(path, &buffer[..length]);
 }
 

@@ -1,0 +1,44 @@
+-- `input::read_all` ends, since every turn moves a byte. What is read lies within the buffer, since a read fills at most the rest.
+use borrow.Author.Needs.{needs}
+use Prim.Native.Nat.{_≤_, _-_}
+use mathlib.Core.Path.{_≡_}
+use native.Mathlib.Omega.{arith}
+use lib.ListN.{length}
+use Rattle.io.proofs.Counting.{counts}
+use Rattle.streams.proofs.Counted.{counted}
+use Rattle.streams.proofs.input.read_all.Statement.{statement}
+use Rattle.streams.proofs.input.read_all.Tie as tie
+
+abbrev Inv-loop : tie.InvT-loop
+Inv-loop descriptor name buffer₀ read₀ buffer read = (length buffer ≡ length buffer₀) × (read ≤ length buffer)
+
+abbrev μ-loop : tie.MeasureT-loop
+μ-loop descriptor name buffer₀ read₀ buffer read = length buffer - read
+
+-- What a read moved fits into the rest of the buffer.
+rest : (c : tie.After-count Inv-loop μ-loop) → c .count .given .0 .0 ≤ length (c .before .before .before .before .read-part .last .1 .0)
+rest c = (counted _ (c .count .given .1) (c .before .before .before .before .read-part .ensures)) .0
+
+pub read-all-spec : {M : Type 1} → statement M
+read-all-spec =
+    tie.close
+    (tie.spec
+    Inv-loop
+    μ-loop
+    (λ c. search needs)
+    (λ c. search needs)
+    (λ c. search needs)
+    (λ c. search needs)
+    (λ c κs. search needs)
+    (λ c. search needs)
+    (λ c. search needs)
+    (λ c κs. search needs)
+    (λ c. search needs)
+    (λ c. search needs)
+    (λ c. search needs)
+    (λ c. counts _ _ (omega arith))
+    (λ c. omega (arith, rest (c .before .before)))
+    (λ c. omega (arith, rest (c .before .before)))
+    (λ c. (omega arith, omega (arith, rest (c .before .before))))
+    (λ c. search needs)
+    (λ c. counts _ _ (omega arith)))

@@ -1,28 +1,28 @@
--- Every starred row holds: its rules are tests that compute, and the interval walk, which equals the tick-by-tick arrival,
--- computes its reply, also where no tick of 1.7 million covers the length. A town's labels are computed as they are defined.
+-- Every starred row holds: its rules are tests that compute, and so does its arrival, tick by tick, but for the row in which no tick of 1.7
+-- million covers the length: there the law of the flow over a piece of constant speed gives it. A town's labels are computed too.
 use Prim.Native.Nat.{ℕ, _<_}
-use mathlib.Core.Path.{_≡_, refl, sym, ap, _∙_}
+use mathlib.Core.Path.{_≡_, refl, ap, _∙_}
 use mathlib.Core.Bool.{true}
 use mathlib.Core.List.{List, [], _∷_, flatten}
-use mathlib.Core.Option.{Option}
+use mathlib.Core.Option.{none}
 use native.Mathlib.Omega.{arith}
 use lib.Dec.{ltb}
 use lib.ListN.{getD}
 use borrow.Author.Tests.{ltb-true}
-use Rattle.model.specs.Ticks.{day, tick?}
-use Rattle.model.specs.Flow.{spansOf, covered, firstTick, arrival}
-use Rattle.model.specs.Intervals.{intervalWalk, walkFrom, endsOf, interval, passed, speedAt, tries}
+use Rattle.model.specs.Ticks.{day, last, tick?}
+use Rattle.model.specs.Flow.{covered, firstTick, arrival}
+use Rattle.model.specs.Intervals.{FencesKept, interval, passed, speedAt}
 use Rattle.model.specs.Labels.{offer, offers, within, labelsOf}
 use Rattle.model.specs.Network.{Network, netOf, driveOf}
 use Rattle.model.specs.NetworkRules.{endsKeep, networkCheck}
 use Rattle.model.specs.Rules.{replied, firstBroken, every, riseFrom, fencesKeep}
-use Rattle.model.proofs.IntervalWalk.{walk-is-arrival}
+use Rattle.model.proofs.IntervalPieces.{interval-is-piece}
 use Rattle.model.proofs.NetworkRules.{accepts-when-kept}
-use Rattle.model.proofs.Rules.{replies-kept, every-at}
+use Rattle.model.proofs.Pieces.{arrival-over-piece, never-from-last}
+use Rattle.model.proofs.Rules.{every-at, fences-kept}
 use Rattle.labelling.specs.Labels.{Labelable}
 use Rattle.labelling.proofs.LabelRules.{labels-replies-when-labelable}
-use Rattle.driving.specs.ArcArrival.{arcRules}
-use Rattle.driving.proofs.ArcRules.{kept-accepted, replies}
+use Rattle.driving.specs.ArcArrival.{arcArrival}
 use Rattle.townfile.specs.Bytes.{upTo, onFirst, pieces}
 use Rattle.townfile.specs.Numbers.{decimalFrom, numberKeeps}
 use Rattle.townfile.specs.Lines.{markOf, nameKeeps, formKeeps, valuesKeep, lineRead, lineAnswer}
@@ -34,12 +34,22 @@ use Rattle.townfile.specs.declared.progress.Progress.{Progress}
 use Rattle.townfile.proofs.Described.{describes-when-faultless}
 use Rattle.cabinet.specs.Rows.{Row, LabelsAre, Holds, _also_, no-more, sampleText, sampleWithoutComment, StarredRows}
 
-arc-row : (metres : ℕ) (fences speeds : List ℕ) (departure : ℕ) (arrival : Option ℕ) → firstBroken (arcRules departure metres fences speeds) (tt {0}) ≡ replied (tt {0}) → tick? (intervalWalk fences speeds (spansOf metres) departure) ≡ arrival → Holds (Row.arc metres fences speeds departure arrival)
-arc-row metres fences speeds departure arrival taken walked =
-    let kept = replies-kept (arcRules departure metres fences speeds) tt tt taken in
-    let a = kept-accepted departure metres fences speeds kept in
-    replies departure metres fences speeds kept
-    ∙ ap replied (ap tick? (sym (walk-is-arrival fences speeds (spansOf metres) departure (a .fences-kept) (a .some-interval) (a .as-many) (omega (arith, a .some-length)) (a .in-time))) ∙ walked)
+-- An arc that comes to stand short of its end is never driven: its two intervals are pieces of constant speed, and the last tick ends them.
+standing-row : Holds (Row.arc 2 (0 ∷ 100 ∷ []) (36 ∷ 0 ∷ []) 99 none)
+unfolding arcArrival firstBroken every riseFrom fencesKeep passed
+standing-row = ap (λ (t : ℕ). replied (tick? t)) (moves ∙ stands ∙ never-from-last v 36 (omega arith))
+  where
+    v : ℕ → ℕ
+    v = speedAt (0 ∷ 100 ∷ []) (36 ∷ 0 ∷ [])
+
+    kept : FencesKept (0 ∷ 100 ∷ [])
+    kept = fences-kept (0 ∷ 100 ∷ []) refl
+
+    moves : arrival v 72 99 ≡ arrival v 36 100
+    moves = arrival-over-piece v 99 100 36 72 (interval-is-piece (0 ∷ 100 ∷ []) kept 99 0 (omega arith) refl (36 ∷ 0 ∷ [])) (omega arith)
+
+    stands : arrival v 36 100 ≡ arrival v 36 last
+    stands = arrival-over-piece v 100 last 0 36 (interval-is-piece (0 ∷ 100 ∷ []) kept 100 1 (omega arith) refl (36 ∷ 0 ∷ [])) (omega arith)
 
 labels-are : (N : Network) (source departure : ℕ) (expected : List ℕ) → networkCheck N ≡ replied tt → source < N .junctions → departure < day →
     labelsOf (netOf N) source departure ≡ expected → LabelsAre N source departure expected
@@ -102,16 +112,16 @@ unfolding pieces linesFrom firstFault
 empty-row = refused-text [] 27 1 refl
 
 pub starred-rows : StarredRows
-unfolding intervalWalk walkFrom endsOf interval passed tries firstBroken every riseFrom fencesKeep
+unfolding arcArrival firstBroken every riseFrom fencesKeep speedAt interval passed arrival firstTick covered
 starred-rows =
-    arc-row _ _ _ _ _ refl refl
-    also arc-row _ _ _ _ _ refl refl
-    also arc-row _ _ _ _ _ refl refl
-    also arc-row _ _ _ _ _ refl refl
-    also arc-row _ _ _ _ _ refl refl
-    also arc-row _ _ _ _ _ refl refl
-    also arc-row _ _ _ _ _ refl refl
-    also arc-row _ _ _ _ _ refl refl
+    refl
+    also refl
+    also refl
+    also refl
+    also refl
+    also standing-row
+    also refl
+    also refl
     also town-row
     also alike-row
     also empty-row

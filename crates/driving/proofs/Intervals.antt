@@ -1,15 +1,13 @@
--- Intervals by their number: how many fences a tick has reached, counted along the table, and the tick at which an interval ends.
+-- How many fences a tick has reached, counted along the table.
 use Prim.Native.Nat.{ℕ, _+_, _≤_, _<_}
-use mathlib.Core.Path.{_≡_, refl, sym}
-use mathlib.Core.List.{List, [], _∷_}
+use mathlib.Core.Path.{_≡_}
+use mathlib.Core.List.{List}
 use native.Mathlib.Nat.{add-zero, add-suc, suc-add}
 use native.Mathlib.Numerals.{add-one}
-use native.Mathlib.Omega.{arith}
-use lib.ListN.{length, getD, drop, drop-of-length-le, length-append, List·getD-append}
-use lib.Seq.{drop-cons, getD-at}
+use lib.ListN.{length, getD, drop, drop-of-length-le}
+use lib.Seq.{drop-cons}
 use borrow.Author.Tests.{le-leb, lt-leb}
-use Rattle.model.specs.Ticks.{last}
-use Rattle.model.specs.Intervals.{passed, endsOf}
+use Rattle.model.specs.Intervals.{passed}
 
 -- The fences left behind the first k add the rest of a count.
 module _ (fences : List ℕ) (tick k count : ℕ) (so-far : k + passed (drop k fences) tick ≡ count) where
@@ -24,18 +22,3 @@ module _ (fences : List ℕ) (tick k count : ℕ) (so-far : k + passed (drop k f
   pub passed-ends : length fences ≤ k → k ≡ count
   unfolding passed
   passed-ends h = rw (drop-of-length-le fences h, add-zero) at so-far
-
-pub ends-long : (fences : List ℕ) → length (endsOf fences) ≡ length fences
-unfolding endsOf
-ends-long [] = refl
-ends-long (f ∷ fs) = omega (arith, length-append fs (last ∷ []))
-
-pub end-is-fence : (fences : List ℕ) (k : ℕ) → k + 1 < length fences → getD fences (k + 1) 0 ≡ getD (endsOf fences) k 0
-unfolding endsOf
-end-is-fence [] k h = absurd (omega arith)
-end-is-fence (f ∷ fs) k h = rw (List·getD-append fs (last ∷ []) 0 k (omega arith), add-one)
-
-pub end-is-last : (fences : List ℕ) (k : ℕ) → k < length fences → length fences ≤ k + 1 → last ≡ getD (endsOf fences) k 0
-unfolding endsOf
-end-is-last [] k inside h = absurd (omega arith)
-end-is-last (f ∷ fs) k inside h = sym (getD-at fs last [] 0 k (omega arith))

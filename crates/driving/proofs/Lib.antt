@@ -1,6 +1,5 @@
-pub mod ArcKept
 pub mod ArcRules
+pub mod Driving
 pub mod Flags
 pub mod Intervals
 pub mod Scan
-pub mod Walking

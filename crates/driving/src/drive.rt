@@ -2,9 +2,10 @@
 ghost use mathlib.Core.Path.{_≡_};
 ghost use Prim.Native.Nat.{_+_, _-_, _*_, _^_, _<_, _≤_, min};
 ghost use lib.ListN.{length, getD, drop};
-ghost use Rattle.model.specs.Ticks.{tick?, arrivedAt};
-ghost use Rattle.model.specs.Flow.{spansOf};
-ghost use Rattle.model.specs.Intervals.{passed, ticksFor, endsOf, walkFrom};
+ghost use Rattle.model.specs.Ticks.{last, tick?, arrivedAt};
+ghost use Rattle.model.specs.Flow.{spansOf, ticksFor, arrival};
+ghost use Rattle.model.specs.Intervals.{passed, speedAt};
+ghost use Rattle.driving.specs.ArcKept.{ArcKept};
 use model::limit::SPANS_PER_METRE;
 use model::tick::Arrival;
 use model::tick::Tick;
@@ -38,7 +39,7 @@ fn intervals_of(fences: &[u32], speeds: &[u8]) -> usize
 // The tick at which interval k ends: the next fence. The last interval has no end; no tick after the last one is looked at.
 fn interval_end(fences: &[u32], k: usize) -> u32
     requires { ⌜ k < length (now fences) ⌝ }
-    ensures { λ r. ⌜ r ≡ getD (endsOf (now (fences .entry))) k 0 ⌝ }
+    ensures { λ r. ⌜ r ≡ getD (now (fences .entry)) (k + 1) last ⌝ }
 {
     let next = k + 1;
     if next < fences.len() {
@@ -86,8 +87,10 @@ fn arrival_at(tick: u64) -> Arrival
 // The arrival of a vehicle that leaves at the departure, which lies in the interval. In turn each interval takes what it
 // covers of the spans left; the first that covers them all gives the arrival, and after the last there is none. An interval
 // of speed 0 covers nothing: the vehicle stands until the next fence. The ticks are rounded up once, at the end of the arc.
+// Of an arc that breaks the rules nothing is said but that the call is safe and ends.
 pub fn drive(departure: u32, interval: usize, metres: u32, fences: &[u32], speeds: &[u8]) -> Arrival
-    ensures { λ r. ⌜ arrivedAt r ≡ tick? (walkFrom (now (fences .entry)) (now (speeds .entry)) interval departure (spansOf metres)) ⌝ }
+    ensures { λ r. ⌜ (ArcKept departure interval metres (now (fences .entry)) (now (speeds .entry)) →
+        arrivedAt r ≡ tick? (arrival (speedAt (now (fences .entry)) (now (speeds .entry))) (spansOf metres) departure)) ⌝ }
 {
     let intervals = intervals_of(fences, speeds);
     if intervals <= interval {

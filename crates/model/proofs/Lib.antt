@@ -5,12 +5,13 @@ pub mod Demands
 pub mod Distinct
 pub mod Entries
 pub mod Improvement
-pub mod IntervalWalk
+pub mod IntervalPieces
 pub mod Least
 pub mod NetworkRules
 pub mod Networks
 pub mod OnlyTables
 pub mod Passed
+pub mod Pieces
 pub mod Predecessors
 pub mod Products
 pub mod Refusals

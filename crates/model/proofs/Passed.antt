@@ -1,13 +1,13 @@
 -- How many fences a tick has reached: it does not fall as ticks pass; the fences it counts can be dropped; the next one after
--- them lies ahead.
+-- them lies ahead, and until it none is added.
 use Prim.Native.Nat.{ℕ, zero, suc, _+_, _≤_, _<_, zero-le, suc-le-suc}
 use mathlib.Core.Path.{_≡_}
 use mathlib.Core.List.{List, [], _∷_}
 use mathlib.Core.Logic.{⊎-elim}
-use native.Mathlib.Nat.{add-zero, add-suc, le-of-suc-le-suc}
+use native.Mathlib.Nat.{add-zero, add-suc, le-of-lt, le-of-suc-le-suc}
 use native.Mathlib.Omega.{arith}
 use lib.ListN.{length, getD, drop}
-use borrow.Author.Tests.{le-leb}
+use borrow.Author.Tests.{le-leb, lt-leb}
 use Rattle.model.specs.Intervals.{passed}
 use Rattle.model.proofs.Tests.{leb-cases}
 
@@ -20,11 +20,6 @@ passed-monotone (f ∷ fs) s t h =
     (λ w. rw (w .0) zero-le)
     (leb-cases f s)
 
-pub passed-at-most : (fences : List ℕ) (t : ℕ) → passed fences t ≤ length fences
-unfolding passed
-passed-at-most [] t = zero-le
-passed-at-most (f ∷ fs) t = ⊎-elim (λ w. rw (w .0) (suc-le-suc (passed-at-most fs t))) (λ w. rw (w .0) zero-le) (leb-cases f t)
-
 -- A fence that is counted has been reached.
 pub passed-drop : (k : ℕ) (fences : List ℕ) (t : ℕ) → k ≤ passed fences t → passed (drop k fences) t + k ≡ passed fences t
 unfolding passed
@@ -36,12 +31,29 @@ passed-drop (suc k) (f ∷ fs) t h =
     (λ w. absurd (let none : suc k ≤ 0 = rw (w .0) at h in omega arith))
     (leb-cases f t)
 
--- The first fence that is not counted lies ahead.
-pub next-ahead : (fences : List ℕ) (t d : ℕ) → passed fences t < length fences → t < getD fences (passed fences t) d
+-- At the next fence one more is counted.
+pub passed-one-more : (fences : List ℕ) (s t d : ℕ) → s ≤ t → passed fences s < length fences → getD fences (passed fences s) d ≤ t → passed fences s < passed fences t
 unfolding passed
-next-ahead [] t d h = absurd (omega arith)
-next-ahead (f ∷ fs) t d h =
+passed-one-more [] s t d h some reached = absurd (omega arith)
+passed-one-more (f ∷ fs) s t d h some reached =
     ⊎-elim
-    (λ w. rw (w .0) (next-ahead fs t d (le-of-suc-le-suc (rw (w .0) at h))))
-    (λ w. rw (w .0) (w .1))
+    (λ w. rw (w .0, le-leb f t (omega arith)) (suc-le-suc (passed-one-more fs s t d h (le-of-suc-le-suc (rw (w .0) at some)) (rw (w .0) at reached))))
+    (λ w. rw (w .0, le-leb f t (rw (w .0) at reached)) (suc-le-suc zero-le))
+    (leb-cases f s)
+
+-- Before a fence no more are counted than stand before it.
+pub passed-before : (fences : List ℕ) (t k d : ℕ) → (k < length fences → t < getD fences k d) → passed fences t ≤ k
+unfolding passed
+passed-before [] t k d before = zero-le
+passed-before (f ∷ fs) t zero d before = rw (lt-leb f t (before (omega arith))) zero-le
+passed-before (f ∷ fs) t (suc k) d before =
+    ⊎-elim
+    (λ w. rw (w .0) (suc-le-suc (passed-before fs t k d (λ h. before (suc-le-suc h)))))
+    (λ w. rw (w .0) zero-le)
     (leb-cases f t)
+
+-- The first fence that is not counted, or what stands for it where there is none, is no earlier.
+pub next-no-earlier : (fences : List ℕ) (t d : ℕ) → t ≤ d → t ≤ getD fences (passed fences t) d
+unfolding passed
+next-no-earlier [] t d h = h
+next-no-earlier (f ∷ fs) t d h = ⊎-elim (λ w. rw (w .0) (next-no-earlier fs t d h)) (λ w. rw (w .0) (le-of-lt (w .1))) (leb-cases f t)

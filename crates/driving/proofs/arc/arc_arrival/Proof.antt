@@ -10,14 +10,13 @@ use lib.ListN.{take}
 use denote.Ref.{now}
 use borrow.Author.Tests.{eq-eqb, ne-eqb, le-ltb, lt-ltb}
 use Rattle.model.specs.Rules.{AllKept, Rule, replied}
-use Rattle.model.specs.Ticks.{tick?, arrivedAt}
+use Rattle.model.specs.Ticks.{arrivedAt}
 use Rattle.model.specs.Intervals.{passed}
 use Rattle.model.proofs.Rules.{kept-next, refused-at}
-use Rattle.model.proofs.IntervalWalk.{some-passed}
+use Rattle.model.proofs.IntervalPieces.{some-passed}
 use Rattle.driving.specs.ArcArrival.{arcRules, arcArrival, ArcAccepted}
 use Rattle.driving.specs.ArcKept.{ArcKept}
 use Rattle.driving.proofs.ArcRules.{kept-accepted, replies}
-use Rattle.driving.proofs.ArcKept.{walk-is-arc-arrival}
 use Rattle.driving.proofs.Flags.{as-test}
 use Rattle.driving.proofs.arc.arc_arrival.Statement.{statement}
 use Rattle.driving.proofs.arc.arc_arrival.Tie as tie
@@ -79,7 +78,7 @@ arc-kept c = let a = accepted (c .before) in
 
 -- the reply is what the engine gave
 replied-as : (c : tie.After-drive) → arcArrival (start₆ (c .before .before) .args .departure .number) (start₆ (c .before .before) .args .metres) (now (start₆ (c .before .before) .args .fences)) (now (start₆ (c .before .before) .args .speeds)) ≡ replied (arrivedAt (c .drive .result))
-replied-as c = replies _ _ _ _ (kept₆ (c .before .before)) ∙ ap replied (sym (c .drive .ensures ∙ ap tick? (walk-is-arc-arrival (arc-kept (c .before)))))
+replied-as c = replies _ _ _ _ (kept₆ (c .before .before)) ∙ ap replied (sym (c .drive .ensures (arc-kept (c .before))))
 
 returns : tie.Need-returns
 unfolding arcArrival

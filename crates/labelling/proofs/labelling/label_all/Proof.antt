@@ -13,7 +13,7 @@ use Rattle.model.specs.Ticks.{never}
 use Rattle.model.specs.Intervals.{passed}
 use Rattle.model.specs.Labels.{noArc}
 use Rattle.model.specs.Network.{network}
-use Rattle.model.proofs.IntervalWalk.{some-passed}
+use Rattle.model.proofs.IntervalPieces.{some-passed}
 use Rattle.model.proofs.Passed.{passed-drop}
 use Rattle.labelling.specs.Labelling.{Linked}
 use Rattle.labelling.proofs.Matches.{equal-keys}

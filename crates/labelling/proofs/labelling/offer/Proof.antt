@@ -1,20 +1,16 @@
 -- `labelling::offer` leaves the tables as `lowered` and `taken` say: the label that it reckons is the arc's arrival, and each return
 -- stands for one way in which that compares with the head's label.
 use borrow.Author.Needs.{needs}
-use Prim.Native.Nat.{ℕ, _-_, _+_, _*_, _≤_, _<_}
+use Prim.Native.Nat.{ℕ, _≤_, _<_}
 use mathlib.Core.Path.{_≡_, ap, _∙_}
 use mathlib.Core.Logic.{_⊎_, ⊎-elim}
 use native.Mathlib.Nat.{add-sub-cancel-left}
 use native.Mathlib.Omega.{arith}
-use lib.ListN.{length, getD, take, drop}
 use denote.Ref.{now}
-use Rattle.model.specs.Ticks.{last, never, tick?}
-use Rattle.model.specs.Flow.{spansOf}
-use Rattle.model.specs.Intervals.{walkFrom}
+use Rattle.model.specs.Ticks.{last, never, tick?, arrivedAt}
 use Rattle.model.proofs.Arrival.{arrival-by-last}
 use Rattle.model.specs.Network.{arrivalOn}
 use Rattle.labelling.specs.Labelling.{labelOf}
-use Rattle.driving.proofs.ArcKept.{walk-is-arc-arrival}
 use Rattle.labelling.proofs.Offered.{label-of-tick, leaves-lower, leaves-unreached, leaves-tie, leaves-tie-kept, leaves-later}
 use Rattle.labelling.proofs.labelling.offer.Statement.{statement}
 use Rattle.labelling.proofs.labelling.offer.Tie as tie
@@ -25,18 +21,16 @@ start c = c .before .before .before .before .before .before .before .before .bef
 abbrev arrival : tie.After-label-of → ℕ
 arrival c = arrivalOn (now (start c .args .fences)) (now (start c .args .lengths)) (now (start c .args .speeds)) (start c .args .a) (start c .args .tick)
 
--- the engine's walk over the arc's part of the speeds
-walked : (c : tie.After-label-of) → walkFrom (now (start c .args .fences)) (take (start c .args .a * length (now (start c .args .fences)) + length (now (start c .args .fences)) - start c .args .a * length (now (start c .args .fences))) (drop (start c .args .a * length (now (start c .args .fences))) (now (start c .args .speeds)))) (start c .args .interval) (start c .args .tick) (spansOf (getD (now (start c .args .lengths)) (start c .args .a) 0)) ≡ arrival c
-walked c = rw add-sub-cancel-left (walk-is-arc-arrival (start c .pre .kept))
+-- the engine is lent the arc's part of the speeds
+driven : (c : tie.After-label-of) → arrivedAt (c .before .drive .result) ≡ tick? (arrival c)
+driven c = (rw add-sub-cancel-left at (c .before .drive .ensures)) (start c .pre .kept)
 
 in-time : (c : tie.After-label-of) → (arrival c ≤ last) ⊎ (arrival c ≡ never)
 in-time c = arrival-by-last _ _ _
 
 arrival-is : (c : tie.After-label-of) → c .label-of .result ≡ arrival c
 arrival-is c =
-    c .label-of .ensures
-    ∙ ap labelOf (c .before .drive .ensures ∙ ap tick? (walked c))
-    ∙ label-of-tick (arrival c) (in-time c)
+    c .label-of .ensures ∙ ap labelOf (driven c) ∙ label-of-tick (arrival c) (in-time c)
 
 -- what the head's label is, and that an arrival which is not never lies below it
 reached : (c : tie.Else2) → c .before .before .before .label-of .result < never

@@ -13,7 +13,7 @@ use Rattle.model.specs.Ticks.{day, last, tick?}
 use Rattle.model.specs.Flow.{covered, firstTick, arrival}
 use Rattle.model.specs.Intervals.{FencesKept, interval, passed, speedAt}
 use Rattle.model.specs.Labels.{offer, offers, within, labelsOf}
-use Rattle.model.specs.Network.{Network, netOf, driveOf}
+use Rattle.model.specs.Network.{Network, netOf, speedOn, driveOf}
 use Rattle.model.specs.NetworkRules.{endsKeep, networkCheck}
 use Rattle.model.specs.Rules.{replied, firstBroken, every, riseFrom, fencesKeep}
 use Rattle.model.proofs.IntervalPieces.{interval-is-piece}
@@ -95,7 +95,7 @@ unfolding sample-read joined firstBroken every riseFrom fencesKeep upTo onFirst 
 shorter-scanned = refl
 
 town-row : Holds (Row.town sampleText 0 10 (10 ∷ 60 ∷ 100 ∷ []))
-unfolding joined pieces upTo onFirst decimalFrom markOf marked townOf flatten firstBroken every riseFrom fencesKeep networkCheck endsKeep labelsOf within offers offer driveOf speedAt interval passed arrival firstTick covered
+unfolding joined pieces upTo onFirst decimalFrom markOf marked townOf flatten firstBroken every riseFrom fencesKeep networkCheck endsKeep labelsOf within offers offer driveOf speedOn speedAt interval passed arrival firstTick covered
 town-row = (townOf sampleText, describes sampleText sample-read refl sample-scanned, labels-are (networkOf (townOf sampleText)) 0 10 (10 ∷ 60 ∷ 100 ∷ []) refl (omega arith) (omega arith) refl)
 
 alike-row : Holds (Row.alike sampleText sampleWithoutComment)

@@ -14,7 +14,7 @@ use lib.Seq.{getD-set-same, getD-set-other}
 use borrow.Author.Tests.{lt-ltb, le-ltb}
 use Rattle.model.specs.Ticks.{last, never}
 use Rattle.model.specs.Intervals.{passed}
-use Rattle.model.specs.Network.{Network, Accepted, arcs, intervals, driveOf, netOf, arcSpeeds, arrivalOn}
+use Rattle.model.specs.Network.{Network, Accepted, arcs, intervals, driveOf, netOf, arcSpeeds}
 use Rattle.model.specs.Labels.{noArc, labelsOf, predecessorsOf}
 use Rattle.model.proofs.Entries.{getD-inside, getD-all}
 use Rattle.model.proofs.Networks.{accepted-sound}
@@ -149,7 +149,7 @@ module _ {N : Network} (accepted : Accepted N) {source departure tick : ℕ} {se
   head = getD (N .heads) a 0
 
   abbrev arrives : ℕ
-  arrives = arrivalOn (N .fences) (N .lengths) (N .speeds) a tick
+  arrives = driveOf N a tick
 
   label-is : getD labels head never ≡ getD labels head 0
   label-is = getD-inside labels head never 0 (omega (arith, accepted .head-below a is-arc, s .labels-long))
@@ -161,7 +161,6 @@ module _ {N : Network} (accepted : Accepted N) {source departure tick : ℕ} {se
   skipped = offer-skips s (accepted-sound N accepted) a is-arc tail-settled tail-label more
 
   pub offered : getD settled head false ≡ false → Settling (netOf N) source departure tick settled D′ (lowered labels head arrives) (taken labels predecessors head arrives a)
-  unfolding driveOf
   offered waits =
       ⊎-elim
       (λ w. rw (w .0) (offer-lowers s (accepted-sound N accepted) a is-arc tail-settled tail-label more waits (rw label-is (w .1))))
@@ -274,10 +273,10 @@ module _ {N : Network} {source departure : ℕ} {labels₀ predecessors₀ : Lis
         (t .queued)
 
     pub turn-offers : {tree′ : List ℕ} → getD settled (getD (N .heads) a 0) false ≡ false →
-        Rekeyed labels tree (getD (N .heads) a 0) (arrivalOn (N .fences) (N .lengths) (N .speeds) a tick) tree′ →
+        Rekeyed labels tree (getD (N .heads) a 0) (driveOf N a tick) tree′ →
         Turn N source departure settled junction tick interval (getD next a 0)
-        (lowered labels (getD (N .heads) a 0) (arrivalOn (N .fences) (N .lengths) (N .speeds) a tick))
-        (taken labels predecessors (getD (N .heads) a 0) (arrivalOn (N .fences) (N .lengths) (N .speeds) a tick) a)
+        (lowered labels (getD (N .heads) a 0) (driveOf N a tick))
+        (taken labels predecessors (getD (N .heads) a 0) (driveOf N a tick) a)
         tree′
     turn-offers waits rekeyed =
         goes-on (offered (q .accepted) (t .settling) a (arc-at .0) tail-settled tail-label (one-more N settled junction a next-is) waits)

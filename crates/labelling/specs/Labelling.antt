@@ -9,6 +9,8 @@ use lib.ListN.{length, getD, set, drop}
 use Rattle.model.specs.Ticks.{never}
 use Rattle.model.specs.Limits.{maxJunctions, maxArcs, maxIntervals}
 use Rattle.model.specs.Labels.{noArc}
+use Rattle.model.specs.Flow.{spansOf, arrival}
+use Rattle.model.specs.Intervals.{speedAt}
 use Rattle.model.specs.Network.{arcSpeeds}
 use Rattle.driving.specs.ArcKept.{ArcKept}
 use Rattle.labelling.specs.Tournament.{Tournament, Entered, keyOf}
@@ -30,6 +32,10 @@ pub record Linked (tails first next : List ℕ) : Type 0 where
   pub next-is : (a : ℕ) → a < length tails → getD next a 0 ≡ arcFrom tails (getD tails a 0) (suc a)
 
 -- ---- An arc's offer
+
+-- The arrival on an arc that is left at a tick, from the tables that an offer is lent.
+abbrev pub arrivalOn : List ℕ → List ℕ → List ℕ → ℕ → ℕ → ℕ
+arrivalOn fences lengths speeds a t = arrival (speedAt fences (arcSpeeds fences speeds a)) (spansOf (getD lengths a 0)) t
 
 -- An arrival as a label.
 abbrev pub labelOf : Option ℕ → ℕ

@@ -9,7 +9,7 @@ use lib.ListN.{length, getD, drop, length-take, List·getD-eq-default}
 use Rattle.model.specs.Flow.{spansOf}
 use Rattle.model.specs.Intervals.{interval, speedAt}
 use Rattle.model.specs.Walks.{Sound}
-use Rattle.model.specs.Network.{Network, Accepted, arcs, intervals, speedsOf, driveOf, netOf}
+use Rattle.model.specs.Network.{Network, Accepted, arcs, intervals, speedsOf, speedOn, driveOf, netOf}
 use Rattle.model.specs.Demands.{Improves}
 use Rattle.model.proofs.Arrival.{arrival-is-later, arrival-is-monotone, non-passing, arrival-by-last}
 use Rattle.model.proofs.Improvement.{Better}
@@ -19,14 +19,11 @@ unfolding driveOf
 accepted-sound N accepted = record {
   tail-below = accepted .tail-below;
   head-below = accepted .head-below;
-  later = λ a t is-arc below. arrival-is-later (speed a) (spans a) t (omega (arith, accepted .some-length a is-arc)) below;
-  monotone = λ a s t is-arc earlier. non-passing (speed a) (spans a) s t earlier;
-  driven = λ a t is-arc. arrival-by-last (speed a) (spans a) t;
+  later = λ a t is-arc below. arrival-is-later (speedOn N a) (spans a) t (omega (arith, accepted .some-length a is-arc)) below;
+  monotone = λ a s t is-arc earlier. non-passing (speedOn N a) (spans a) s t earlier;
+  driven = λ a t is-arc. arrival-by-last (speedOn N a) (spans a) t;
 }
   where
-    speed : ℕ → ℕ → ℕ
-    speed a = speedAt (N .fences) (speedsOf N a)
-
     spans : ℕ → ℕ
     spans a = spansOf (getD (N .lengths) a 0)
 
@@ -41,8 +38,8 @@ module _ (A B : Network) (improves : Improves A B) where
           let short : length (speedsOf A a) ≤ k = omega (arith, length-take (intervals A) (drop (a * intervals A) (A .speeds))) in
           omega (arith, List·getD-eq-default (speedsOf A a) 0 short)
 
-  tick-no-slower : (a t : ℕ) → a < arcs A → speedAt (A .fences) (speedsOf A a) t ≤ speedAt (B .fences) (speedsOf B a) t
-  unfolding speedAt
+  tick-no-slower : (a t : ℕ) → a < arcs A → speedOn A a t ≤ speedOn B a t
+  unfolding speedOn speedAt
   tick-no-slower a t is-arc =
       let same : interval (A .fences) t ≡ interval (B .fences) t = ap (λ (fences : List ℕ). interval fences t) (improves .same-fences) in
       rw (← same) (speed-no-lower a (interval (A .fences) t) is-arc)
@@ -50,8 +47,7 @@ module _ (A B : Network) (improves : Improves A B) where
   pub drive-no-later : (a s t : ℕ) → a < arcs A → s ≤ t → driveOf B a s ≤ driveOf A a t
   unfolding driveOf
   drive-no-later a s t is-arc earlier =
-      arrival-is-monotone (speedAt (B .fences) (speedsOf B a)) (speedAt (A .fences) (speedsOf A a))
-      (spansOf (getD (B .lengths) a 0)) (spansOf (getD (A .lengths) a 0)) s t earlier (omega (arith, improves .no-longer a is-arc))
+      arrival-is-monotone (speedOn B a) (speedOn A a) (spansOf (getD (B .lengths) a 0)) (spansOf (getD (A .lengths) a 0)) s t earlier (omega (arith, improves .no-longer a is-arc))
       (λ u. tick-no-slower a u is-arc)
 
   pub improves-better : Better (netOf A) (netOf B)

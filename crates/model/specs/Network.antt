@@ -59,12 +59,13 @@ pub record Accepted (N : Network) : Type 0 where
   pub length-fits : (a : ℕ) → a < arcs N → getD (N .lengths) a 0 ≤ maxLength
   pub speed-fits : (i : ℕ) → i < arcs N * intervals N → getD (N .speeds) i 0 ≤ maxSpeed
 
--- The arrival on an arc that is left at a tick, from the tables that it takes; and of a network.
-abbrev pub arrivalOn : List ℕ → List ℕ → List ℕ → ℕ → ℕ → ℕ
-arrivalOn fences lengths speeds a t = arrival (speedAt fences (arcSpeeds fences speeds a)) (spansOf (getD lengths a 0)) t
+-- The speed of a tick on an arc.
+unfoldable pub speedOn : Network → ℕ → ℕ → ℕ
+speedOn N a t = speedAt (N .fences) (speedsOf N a) t
 
+-- The arrival on an arc that is left at a tick.
 unfoldable pub driveOf : Network → ℕ → ℕ → ℕ
-driveOf N a t = arrivalOn (N .fences) (N .lengths) (N .speeds) a t
+driveOf N a t = arrival (speedOn N a) (spansOf (getD (N .lengths) a 0)) t
 
 abbrev pub netOf : Network → Net
 netOf N = record {

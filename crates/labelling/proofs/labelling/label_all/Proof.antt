@@ -12,7 +12,7 @@ use borrow.Author.Tests.{not-true, not-false}
 use Rattle.model.specs.Ticks.{never}
 use Rattle.model.specs.Intervals.{passed}
 use Rattle.model.specs.Labels.{noArc}
-use Rattle.model.specs.Network.{network}
+use Rattle.model.specs.Network.{network, speedOn, driveOf}
 use Rattle.model.proofs.IntervalPieces.{some-passed}
 use Rattle.model.proofs.Passed.{passed-drop}
 use Rattle.labelling.specs.Labelling.{Linked}
@@ -206,6 +206,7 @@ loop2-less c =
     next-higher (turn-of i .pre) (i .before .loop2 .inv .0) (i .before .loop2 .inv .1) (i .loop2-test .taken)
 
 loop2-again : tie.Need-loop2-again Inv-loop2 μ-loop2 Inv-loop μ-loop
+unfolding driveOf speedOn
 loop2-again c =
     let i = c .before .before in
     let (linked, turn) = i .before .loop2 .inv in (

@@ -56,7 +56,7 @@ module _ (N : Network) (kept : Accepted N) (source departure destination : ℕ) 
 
   label-earliest : Routable N source departure destination hostList → EarliestAt (netOf N) source departure destination arrival
   label-earliest r =
-      let d = demand-2 N kept source departure (r .source-below) (r .departure-below) in
+      let d = demand-2 N kept source departure (r .taken .source-below) (r .taken .departure-below) in
       record {
         attained = d .attained destination (r .destination-below) (r .reached);
         no-sooner = λ t walk. d .no-sooner destination t walk;
@@ -64,7 +64,7 @@ module _ (N : Network) (kept : Accepted N) (source departure destination : ℕ) 
       }
 
   label-below : Routable N source departure destination hostList → arrival < refusalBase
-  label-below r = omega (arith, arrives-by-last {departure = departure} (omega (arith, r .departure-below)) (label-earliest r .attained))
+  label-below r = omega (arith, arrives-by-last {departure = departure} (omega (arith, r .taken .departure-below)) (label-earliest r .attained))
 
   answered-routable : (count : ℕ) → answer ≡ replied count → Routable N source departure destination hostList
   answered-routable count e = route-replies-when-routable N source departure destination hostList count .0 e .0
@@ -153,8 +153,8 @@ host-answers-earliest text bytes source departure destination tick = (forward, b
         record {
           town = T;
           described = described;
-          source-below = r .source-below;
-          departure-below = r .departure-below;
+          source-below = r .taken .source-below;
+          departure-below = r .taken .departure-below;
           destination-below = r .destination-below;
           earliest = rw e at (label-earliest (networkOf T) kept source departure destination r);
         }

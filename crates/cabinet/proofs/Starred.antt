@@ -55,9 +55,7 @@ labels-are : (N : Network) (source departure : ℕ) (expected : List ℕ) → ne
     labelsOf (netOf N) source departure ≡ expected → LabelsAre N source departure expected
 labels-are N source departure expected checked source-below departure-below computed labels predecessors labels-long predecessors-long =
     let q : Labelable N source departure labels predecessors = record {
-      accepted = accepts-when-kept N .0 checked;
-      source-below = source-below;
-      departure-below = departure-below;
+      taken = record { accepted = accepts-when-kept N .0 checked; source-below = source-below; departure-below = departure-below };
       labels-long = labels-long;
       predecessors-long = predecessors-long;
     } in

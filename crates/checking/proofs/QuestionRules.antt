@@ -1,22 +1,17 @@
 -- The rules that Labels and Route ask first, and their plain statement.
-use Prim.Native.Nat.{ℕ, _<_}
+use Prim.Native.Nat.{ℕ}
 use mathlib.Core.Path.{_≡_, sym, ap, _∙_}
 use mathlib.Core.Bool.{true, false, not}
 use lib.Dec.{ltb}
 use lib.ListN.{getD, take}
 use borrow.Author.Tests.{not-false, ltb-true, lt-ltb}
 use Rattle.model.specs.Ticks.{day}
-use Rattle.model.specs.Network.{Network, Accepted}
+use Rattle.model.specs.Network.{Network}
 use Rattle.model.specs.NetworkRules.{networkRules, networkCheck}
 use Rattle.model.specs.Rules.{AllKept, refused, replied, _if_}
 use Rattle.model.proofs.NetworkRules.{kept-accepted, accepted-kept}
 use Rattle.model.proofs.Rules.{kept-replies, refused-at, refused-before, kept-before, kept-append, append-kept}
-use Rattle.checking.specs.Question.{startRules, questionRules, questionCheck}
-
-pub record Taken (N : Network) (source departure : ℕ) : Type 0 where
-  pub accepted : Accepted N
-  pub source-below : source < N .junctions
-  pub departure-below : departure < day
+use Rattle.checking.specs.Question.{startRules, questionRules, questionCheck, Taken}
 
 module _ (N : Network) (source departure : ℕ) where
   pub network-refuses : (number : ℕ) → refused number ≡ networkCheck N → refused number ≡ questionCheck N source departure

@@ -8,6 +8,6 @@ demand-3 A B source early late better = record {
   arrivals = arrivals-no-later better source;
   labels = labels-no-later better source;
   calls = λ labels predecessors labels′ predecessors′ a b j h.
-      let q = answered A source late labels predecessors a in
-      rw (a, b) (labels-no-later better source (q .source-below) (q .departure-below) j h);
+      let t = answered A source late labels predecessors a .taken in
+      rw (a, b) (labels-no-later better source (t .source-below) (t .departure-below) j h);
 }

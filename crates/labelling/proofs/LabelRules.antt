@@ -49,18 +49,15 @@ module _ (N : Network) (source departure : ℕ) (labels predecessors : List ℕ)
 
   pub kept-labelable : AllKept (questionRules N source departure) → AllKept buffers → Labelable N source departure labels predecessors
   kept-labelable question kept =
-      let t = kept-taken N source departure question in
       let long = true-both (eqb (length labels) (N .junctions)) (eqb (length predecessors) (N .junctions)) (not-false _ (kept .0)) in
       record {
-        accepted = t .accepted;
-        source-below = t .source-below;
-        departure-below = t .departure-below;
+        taken = kept-taken N source departure question;
         labels-long = eqb-true (length labels) (N .junctions) (long .0);
         predecessors-long = eqb-true (length predecessors) (N .junctions) (long .1);
       }
 
   labelable-question : Labelable N source departure labels predecessors → AllKept (questionRules N source departure)
-  labelable-question q = taken-kept N source departure (record { accepted = q .accepted; source-below = q .source-below; departure-below = q .departure-below })
+  labelable-question q = taken-kept N source departure (q .taken)
 
   labelable-buffers : Labelable N source departure labels predecessors → AllKept buffers
   labelable-buffers q = (ap not (both-true (eq-eqb (length labels) (N .junctions) (q .labels-long)) (eq-eqb (length predecessors) (N .junctions) (q .predecessors-long))), tt)
@@ -83,6 +80,6 @@ labels-replies-when-labelable N source departure labels predecessors =
 
 pub demand-2-of-call : Demand2OfCall
 demand-2-of-call N source departure labels predecessors e =
-    let q = answered N source departure labels predecessors e in
-    let tables = only-tables-of-network N (q .accepted) source departure (q .source-below) (q .departure-below) (labelsOf (netOf N) source departure) (predecessorsOf (netOf N) source departure) .1 (refl, refl) in
-    rw e (demand-2 N (q .accepted) source departure (q .source-below) (q .departure-below), tables .0, tables .1)
+    let t = answered N source departure labels predecessors e .taken in
+    let tables = only-tables-of-network N (t .accepted) source departure (t .source-below) (t .departure-below) (labelsOf (netOf N) source departure) (predecessorsOf (netOf N) source departure) .1 (refl, refl) in
+    rw e (demand-2 N (t .accepted) source departure (t .source-below) (t .departure-below), tables .0, tables .1)

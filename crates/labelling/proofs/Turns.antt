@@ -80,11 +80,11 @@ module _ {N : Network} {source departure : ℕ} {labels₀ predecessors₀ : Lis
       Round N source departure (replicate 200 false) 0 labels predecessors tree
   round-starts l p is-key e = record {
     tick = departure;
-    settling = settling-starts (q .source-below) (omega (arith, q .departure-below)) l p (getD-all 200 false) (λ b h d. d);
+    settling = settling-starts (q .taken .source-below) (omega (arith, q .taken .departure-below)) l p (getD-all 200 false) (λ b h d. d);
     settled-long = length-replicate 200 false;
     queued = rw l
         (queued-lowers (queued-starts (replicate (N .junctions) never) (replicate 200 false) (getD-all (N .junctions) never) (getD-all 200 false))
-        (rw length-replicate (q .source-below)) (getD-all 200 false source) (omega (arith, q .departure-below)) (rw is-key at e));
+        (rw length-replicate (q .taken .source-below)) (getD-all 200 false source) (omega (arith, q .taken .departure-below)) (rw is-key at e));
     fences-reached = omega arith;
   }
 
@@ -93,11 +93,11 @@ module _ {N : Network} {source departure : ℕ} {labels₀ predecessors₀ : Lis
       (labels ≡ labelsOf (netOf N) source departure) × (predecessors ≡ predecessorsOf (netOf N) source departure)
   round-ends {labels} r least none =
       let long : length labels ≡ N .junctions = r .settling .labels-long in
-      settling-ends (r .settling) (accepted-sound N (q .accepted))
-      (λ k h. none-waits (r .queued) (omega (arith, q .accepted .junctions-fit)) least none
-      (λ k h. reached-by-last (r .settling) (accepted-sound N (q .accepted)) k (omega arith)) k (omega arith))
+      settling-ends (r .settling) (accepted-sound N (q .taken .accepted))
+      (λ k h. none-waits (r .queued) (omega (arith, q .taken .accepted .junctions-fit)) least none
+      (λ k h. reached-by-last (r .settling) (accepted-sound N (q .taken .accepted)) k (omega arith)) k (omega arith))
       (λ b h e. e)
-      (q .source-below)
+      (q .taken .source-below)
 
 -- ---- The inner loop
 
@@ -205,13 +205,13 @@ module _ {N : Network} {source departure : ℕ} {labels₀ predecessors₀ : Lis
       Turn N source departure (set settled junction true) junction (getD labels junction 0) interval (getD first junction 0) labels predecessors tree′
   turn-starts {settled} {labels} {first} {junction} r nearest out linked in-interval =
       let is-junction : junction < N .junctions = omega (arith, r .settling .labels-long, nearest .inside) in
-      let has-flag : junction < length settled = omega (arith, r .settled-long, q .accepted .junctions-fit) in
+      let has-flag : junction < length settled = omega (arith, r .settled-long, q .taken .accepted .junctions-fit) in
       let same : getD labels junction never ≡ getD labels junction 0 = getD-inside labels junction never 0 (nearest .inside) in
-      let first-is : getD first junction 0 ≡ arcFrom (N .tails) junction 0 = linked .first-is junction (omega (arith, q .accepted .junctions-fit)) in
+      let first-is : getD first junction 0 ≡ arcFrom (N .tails) junction 0 = linked .first-is junction (omega (arith, q .taken .accepted .junctions-fit)) in
       record {
         settling = rw (← same)
             (settling-weakens
-            (settle (r .settling) (accepted-sound N (q .accepted)) junction is-junction has-flag (nearest .unsettled) (nearest .reached)
+            (settle (r .settling) (accepted-sound N (q .taken .accepted)) junction is-junction has-flag (nearest .unsettled) (nearest .reached)
             (λ k h. nearest .least k (omega (arith, r .settling .labels-long))))
             (λ b h d. before-first N settled junction first-is b d));
         settled-long = length-set settled junction true ∙ r .settled-long;
@@ -254,21 +254,21 @@ module _ {N : Network} {source departure : ℕ} {labels₀ predecessors₀ : Lis
 
     pub turn-offerable : Offerable a (getD (N .heads) a 0) tick interval (N .fences) (N .lengths) (N .speeds) labels predecessors tree
     turn-offerable = record {
-      few-arcs = omega (arith, arc-at .0, q .accepted .arcs-fit);
-      few-intervals = q .accepted .intervals-fit;
-      has-length = omega (arith, arc-at .0, q .accepted .lengths-long);
-      has-speeds = omega (arith, arc-inside a (intervals N) (arcs N) (arc-at .0), q .accepted .speeds-long);
-      is-junction = omega (arith, q .accepted .head-below a (arc-at .0), q .accepted .junctions-fit);
-      has-label = omega (arith, q .accepted .head-below a (arc-at .0), t .settling .labels-long);
-      has-predecessor = omega (arith, q .accepted .head-below a (arc-at .0), t .settling .predecessors-long);
-      kept = arc-kept N (q .accepted) tick interval a (t .settling .in-time) (t .interval-is) (arc-at .0);
+      few-arcs = omega (arith, arc-at .0, q .taken .accepted .arcs-fit);
+      few-intervals = q .taken .accepted .intervals-fit;
+      has-length = omega (arith, arc-at .0, q .taken .accepted .lengths-long);
+      has-speeds = omega (arith, arc-inside a (intervals N) (arcs N) (arc-at .0), q .taken .accepted .speeds-long);
+      is-junction = omega (arith, q .taken .accepted .head-below a (arc-at .0), q .taken .accepted .junctions-fit);
+      has-label = omega (arith, q .taken .accepted .head-below a (arc-at .0), t .settling .labels-long);
+      has-predecessor = omega (arith, q .taken .accepted .head-below a (arc-at .0), t .settling .predecessors-long);
+      kept = arc-kept N (q .taken .accepted) tick interval a (t .settling .in-time) (t .interval-is) (arc-at .0);
       tournament = t .queued .tournament;
     }
 
     pub turn-skips : getD settled (getD (N .heads) a 0) false ≡ true →
         Turn N source departure settled junction tick interval (getD next a 0) labels predecessors tree
     turn-skips done =
-        goes-on (skipped (q .accepted) (t .settling) a (arc-at .0) tail-settled tail-label (one-more N settled junction a next-is) done)
+        goes-on (skipped (q .taken .accepted) (t .settling) a (arc-at .0) tail-settled tail-label (one-more N settled junction a next-is) done)
         (t .tick-is)
         (t .queued)
 
@@ -279,8 +279,8 @@ module _ {N : Network} {source departure : ℕ} {labels₀ predecessors₀ : Lis
         (taken labels predecessors (getD (N .heads) a 0) (driveOf N a tick) a)
         tree′
     turn-offers waits rekeyed =
-        goes-on (offered (q .accepted) (t .settling) a (arc-at .0) tail-settled tail-label (one-more N settled junction a next-is) waits)
-        (settled-stays (q .accepted) (t .settling) a (arc-at .0) tail-settled tail-label (one-more N settled junction a next-is) waits junction (t .junction-settled) ∙ t .tick-is)
+        goes-on (offered (q .taken .accepted) (t .settling) a (arc-at .0) tail-settled tail-label (one-more N settled junction a next-is) waits)
+        (settled-stays (q .taken .accepted) (t .settling) a (arc-at .0) tail-settled tail-label (one-more N settled junction a next-is) waits junction (t .junction-settled) ∙ t .tick-is)
         (queued-offered (t .queued) inside waits
         (rw (← getD-inside labels (getD (N .heads) a 0) never 0 inside) (labels-at-most-never (t .settling) (getD (N .heads) a 0)))
         rekeyed)
@@ -291,7 +291,7 @@ module _ {N : Network} {source departure : ℕ} {labels₀ predecessors₀ : Lis
     -- the next arc has a higher number, or is none
     pub next-higher : noArc - getD next a 0 < noArc - a
     next-higher =
-        let few : a < 640 = omega (arith, arc-at .0, q .accepted .arcs-fit) in
+        let few : a < 640 = omega (arith, arc-at .0, q .taken .accepted .arcs-fit) in
         ⊎-elim (λ e. omega (arith, next-is, e)) (λ f. omega (arith, next-is, f .2)) (arc-from (N .tails) junction (suc a) (arc-at .0))
 
   pub turn-ends : {settled : List Bool} {labels predecessors tree : List ℕ} {junction tick interval a reached : ℕ} →
@@ -299,7 +299,7 @@ module _ {N : Network} {source departure : ℕ} {labels₀ predecessors₀ : Lis
       Round N source departure settled reached labels predecessors tree
   turn-ends {tick} t done reached = record {
     tick = tick;
-    settling = settling-weakens (t .settling) (λ b h d. (h, d, λ _. omega (arith, q .accepted .arcs-fit)));
+    settling = settling-weakens (t .settling) (λ b h d. (h, d, λ _. omega (arith, q .taken .accepted .arcs-fit)));
     settled-long = t .settled-long;
     queued = t .queued;
     fences-reached = reached;

@@ -1,20 +1,20 @@
 -- "Labels (network, source, departure, lent labels and predecessors). 1 to 8; 9, source not below the junction count; 10,
 -- departure 864,000 or above; 11, either lent buffer not exactly as long as the junction count. Otherwise both buffers hold
 -- every junction's label and predecessor."
-use Prim.Native.Nat.{ℕ, _<_}
+use Prim.Native.Nat.{ℕ}
 use mathlib.Core.Path.{_≡_}
 use mathlib.Core.Bool.{not, _&&_}
 use mathlib.Core.List.{List, [], _∷_, _++_}
 use mathlib.Core.Logic.{_↔_}
 use lib.Dec.{eqb}
 use lib.ListN.{length, getD}
-use Rattle.model.specs.Ticks.{day, never}
-use Rattle.model.specs.Network.{Network, Accepted, netOf}
+use Rattle.model.specs.Ticks.{never}
+use Rattle.model.specs.Network.{Network, netOf}
 use Rattle.model.specs.Labels.{labelsOf, predecessorsOf, Certified, Lowest}
 use Rattle.model.specs.Walks.{Earliest}
 use Rattle.model.specs.Refusals.{numberOf}
 use Rattle.model.specs.Rules.{Outcome, refused, replied, Rule, _if_, firstBroken, after}
-use Rattle.checking.specs.Question.{questionRules}
+use Rattle.checking.specs.Question.{questionRules, Taken}
 use Rattle.labelling.specs.declared.labels.Labelled.{Labelled}
 use Rattle.labelling.specs.declared.labels.Labelled.the-variants.{Written, Refused}
 
@@ -38,11 +38,9 @@ predecessorsAfter N source departure labels predecessors = after (labelsAnswer N
 
 -- ---- What is proved of it
 
--- What Labels asks: an accepted network, a question that it takes, and buffers of the right length.
+-- What Labels asks: a question that is taken, and buffers of the right length.
 pub record Labelable (N : Network) (source departure : ℕ) (labels predecessors : List ℕ) : Type 0 where
-  pub accepted : Accepted N
-  pub source-below : source < N .junctions
-  pub departure-below : departure < day
+  pub taken : Taken N source departure
   pub labels-long : length labels ≡ N .junctions
   pub predecessors-long : length predecessors ≡ N .junctions
 

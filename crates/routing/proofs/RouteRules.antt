@@ -38,16 +38,12 @@ module _ (N : Network) (source departure destination : ℕ) (arcs : List ℕ) wh
   own-decides taken = kept-before question own (length route) taken
 
   kept-routable : AllKept question → AllKept own → Routable N source departure destination arcs
-  kept-routable taken kept =
-      let t = kept-taken N source departure taken in
-      record {
-        accepted = t .accepted;
-        source-below = t .source-below;
-        departure-below = t .departure-below;
-        destination-below = ltb-true destination (N .junctions) (not-false (ltb destination (N .junctions)) (kept .0));
-        reached = eqb-false (label N source departure destination) never (kept .1 .0);
-        long-enough = λ h. omega (arith, ltb-false (length arcs) (length route) (kept .1 .1 .0));
-      }
+  kept-routable taken kept = record {
+    taken = kept-taken N source departure taken;
+    destination-below = ltb-true destination (N .junctions) (not-false (ltb destination (N .junctions)) (kept .0));
+    reached = eqb-false (label N source departure destination) never (kept .1 .0);
+    long-enough = λ h. omega (arith, ltb-false (length arcs) (length route) (kept .1 .1 .0));
+  }
 
   answered : (count : ℕ) → routeAnswer N source departure destination arcs ≡ replied count → Routable N source departure destination arcs × (count ≡ length route)
   unfolding routeAnswer
@@ -66,8 +62,7 @@ module _ (N : Network) (source departure destination : ℕ) (arcs : List ℕ) wh
 
   routable-replies : Routable N source departure destination arcs → routeAnswer N source departure destination arcs ≡ replied (length route)
   routable-replies r =
-      replies (taken-kept N source departure (record { accepted = r .accepted; source-below = r .source-below; departure-below = r .departure-below }))
-      (r .destination-below) (r .reached) (omega (arith, r .long-enough))
+      replies (taken-kept N source departure (r .taken)) (r .destination-below) (r .reached) (omega (arith, r .long-enough))
 
 -- ---- The statements
 
@@ -81,7 +76,8 @@ pub demand-2-of-route-call : Demand2OfRouteCall
 demand-2-of-route-call N source departure destination arcs count e =
     let a = answered N source departure destination arcs count e in
     let r = a .0 in
-    let d = demand-2-of-route N (r .accepted) source departure (r .source-below) (r .departure-below) destination (r .destination-below) (r .reached) in
+    let t = r .taken in
+    let d = demand-2-of-route N (t .accepted) source departure (t .source-below) (t .departure-below) destination (r .destination-below) (r .reached) in
     (rw (e, a .1, take-append-seam (route N source departure destination arcs) (drop (length (route N source departure destination arcs)) arcs)) (d .0), omega (arith, d .1, a .1))
 
 pub room-for-every-route : RoomForEveryRoute

@@ -19,8 +19,8 @@ use Rattle.model.proofs.OnlyTables.{labels-certified}
 use Rattle.model.proofs.Routes.{allBack, route-reverses, whole}
 use Rattle.model.proofs.Trails.{Trail, here, back}
 use Rattle.model.proofs.Rules.{replies-kept, refused-before}
-use Rattle.checking.specs.Question.{questionRules, questionCheck}
-use Rattle.checking.proofs.QuestionRules.{Taken, kept-taken}
+use Rattle.checking.specs.Question.{questionRules, questionCheck, Taken}
+use Rattle.checking.proofs.QuestionRules.{kept-taken}
 use Rattle.labelling.specs.Labels.{labelsAnswer, labelsAfter, predecessorsAfter}
 use Rattle.model.proofs.Entries.{getD-inside}
 use Rattle.routing.specs.Following.{backFrom, Leads, Reached, Follows, no-junction, unreached, too-short, found}

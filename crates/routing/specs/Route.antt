@@ -15,7 +15,7 @@ use Rattle.model.specs.Demands.{label}
 use Rattle.model.specs.Routes.{routeOf, Driven}
 use Rattle.model.specs.Refusals.{numberOf}
 use Rattle.model.specs.Rules.{Outcome, refused, replied, Rule, _if_, firstBroken, after, written}
-use Rattle.checking.specs.Question.{questionRules}
+use Rattle.checking.specs.Question.{questionRules, Taken}
 use Rattle.routing.specs.declared.route.Routed.{Routed}
 use Rattle.routing.specs.declared.route.Routed.the-variants.{Arcs, Refused}
 
@@ -57,11 +57,9 @@ arcsAfter N source departure destination arcs =
 
 -- ---- What is proved of it
 
--- What Route asks: an accepted network, a question that it takes, a destination that is reached, and a list long enough.
+-- What Route asks: a question that is taken, a destination that is reached, and a list long enough.
 pub record Routable (N : Network) (source departure destination : ℕ) (arcs : List ℕ) : Type 0 where
-  pub accepted : Accepted N
-  pub source-below : source < N .junctions
-  pub departure-below : departure < day
+  pub taken : Taken N source departure
   pub destination-below : destination < N .junctions
   pub reached : label N source departure destination ≡ never → ⊥
   pub long-enough : length arcs < length (routeOf (netOf N) source departure destination) → ⊥

@@ -47,7 +47,7 @@ abbrev start-of : tie.At-loop Inv-loop2 μ-loop2 Inv-loop μ-loop → tie.Start 
 start-of c = start (cleared (c .before .before .before .before))
 
 source-known : (s : tie.Start Inv-loop2 μ-loop2 Inv-loop μ-loop) → s .args .source < 200
-source-known s = omega (arith, s .pre .source-below, s .pre .accepted .junctions-fit)
+source-known s = omega (arith, s .pre .taken .source-below, s .pre .taken .accepted .junctions-fit)
 
 -- the nearest junction, where there is one
 abbrev at-loop : tie.After-junction-of Inv-loop2 μ-loop2 Inv-loop μ-loop → tie.At-loop Inv-loop2 μ-loop2 Inv-loop μ-loop
@@ -58,13 +58,13 @@ nearest : (c : tie.After-junction-of Inv-loop2 μ-loop2 Inv-loop μ-loop) →
 nearest c =
     let r = at-loop c .loop .inv .1 in
     least-is-nearest (r .queued)
-    (omega (arith, r .settling .labels-long, start-of (at-loop c) .pre .accepted .junctions-fit))
+    (omega (arith, r .settling .labels-long, start-of (at-loop c) .pre .taken .accepted .junctions-fit))
     (c .before .before .least-key .ensures)
     (omega (arith, c .before .before .least-key .ok, c .before .if1 .left))
     (c .junction-of .ensures)
 
 below : (c : tie.After-junction-of Inv-loop2 μ-loop2 Inv-loop μ-loop) → c .junction-of .result < 200
-below c = omega (arith, nearest c .inside, at-loop c .loop .inv .1 .settling .labels-long, start-of (at-loop c) .pre .accepted .junctions-fit)
+below c = omega (arith, nearest c .inside, at-loop c .loop .inv .1 .settling .labels-long, start-of (at-loop c) .pre .taken .accepted .junctions-fit)
 
 abbrev junction-at : tie.After-fences-passed Inv-loop2 μ-loop2 Inv-loop μ-loop → tie.After-junction-of Inv-loop2 μ-loop2 Inv-loop μ-loop
 junction-at c = c .before .before .before .before
@@ -79,7 +79,7 @@ passed-are c =
 
 interval-known : (c : tie.After-fences-passed Inv-loop2 μ-loop2 Inv-loop μ-loop) → 0 < c .fences-passed .result
 interval-known c =
-    let a = start-of (at-loop (junction-at c)) .pre .accepted in
+    let a = start-of (at-loop (junction-at c)) .pre .taken .accepted in
     subst (λ n. 0 < n) (sym (passed-are c)) (some-passed _ _ (a .fences-kept) (a .some-interval))
 
 -- the arc at hand
@@ -90,7 +90,7 @@ arc-at : (c : tie.In-loop2 Inv-loop2 μ-loop2 Inv-loop μ-loop) → c .before .l
 arc-at c = c .before .loop2 .inv .1 .arc-is (c .loop2-test .taken) .0
 
 few : (c : tie.In-loop2 Inv-loop2 μ-loop2 Inv-loop μ-loop) → c .before .loop2 .a < 640
-few c = omega (arith, arc-at c, turn-of c .pre .accepted .arcs-fit)
+few c = omega (arith, arc-at c, turn-of c .pre .taken .accepted .arcs-fit)
 
 clear-requires : tie.Need-clear-requires Inv-loop2 μ-loop2 Inv-loop μ-loop
 clear-requires c κs =
@@ -104,15 +104,15 @@ slice-write-labels : tie.Need-slice-write-labels Inv-loop2 μ-loop2 Inv-loop μ-
 slice-write-labels c =
     let a = c .before .before .before .before in
     let s = start a in
-    omega (arith, ap length (a .clear .ensures .0), length-replicate (length (now (s .args .labels))) never, s .pre .labels-long, s .pre .source-below)
+    omega (arith, ap length (a .clear .ensures .0), length-replicate (length (now (s .args .labels))) never, s .pre .labels-long, s .pre .taken .source-below)
 
 link-arcs-requires : tie.Need-link-arcs-requires Inv-loop2 μ-loop2 Inv-loop μ-loop
 link-arcs-requires c κs =
-    let a = start (c .before .before .before .before .before .before) .pre .accepted in
+    let a = start (c .before .before .before .before .before .before) .pre .taken .accepted in
     (a .arcs-fit, ((λ b h. omega (arith, a .tail-below b h, a .junctions-fit)), (refl, refl)))
 
 key-of-requires : tie.Need-key-of-requires Inv-loop2 μ-loop2 Inv-loop μ-loop
-key-of-requires c κs = let s = start (cleared (c .before)) in (omega (arith, s .pre .departure-below), source-known s)
+key-of-requires c κs = let s = start (cleared (c .before)) in (omega (arith, s .pre .taken .departure-below), source-known s)
 
 enter-requires : tie.Need-enter-requires Inv-loop2 μ-loop2 Inv-loop μ-loop
 enter-requires c κs = (equal-keys never, source-known (start (cleared (c .before .before))))
@@ -181,13 +181,13 @@ mul-head : tie.Need-mul-head Inv-loop2 μ-loop2 Inv-loop μ-loop
 mul-head c = omega (arith, few c)
 
 shared-slice-read-head : tie.Need-shared-slice-read-head Inv-loop2 μ-loop2 Inv-loop μ-loop
-shared-slice-read-head c = omega (arith, arc-at (c .before), turn-of (c .before) .pre .accepted .heads-long)
+shared-slice-read-head c = omega (arith, arc-at (c .before), turn-of (c .before) .pre .taken .accepted .heads-long)
 
 cast-head : tie.Need-cast-head Inv-loop2 μ-loop2 Inv-loop μ-loop
 cast-head c = fits-widen tt (c .shared-slice-known6 .given _)
 
 array-read-if2 : tie.Need-array-read-if2 Inv-loop2 μ-loop2 Inv-loop μ-loop
-array-read-if2 c = omega (arith, turn-of (c .before) .pre .accepted .head-below _ (arc-at (c .before)), turn-of (c .before) .pre .accepted .junctions-fit)
+array-read-if2 c = omega (arith, turn-of (c .before) .pre .taken .accepted .head-below _ (arc-at (c .before)), turn-of (c .before) .pre .taken .accepted .junctions-fit)
 
 offer-requires : tie.Need-offer-requires Inv-loop2 μ-loop2 Inv-loop μ-loop
 offer-requires c κs =

@@ -1,2 +1,4 @@
 pub mod EndsScan
+pub mod Flags
 pub mod QuestionRules
+pub mod Scan

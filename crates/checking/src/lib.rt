@@ -1,4 +1,5 @@
-// Whether tables are a network, and whether a question of it is taken: the rules that every operation on a network asks first.
+// The tests of the rules, whether tables are a network, and whether a question of it is taken: what every operation asks first.
 mod check;
 pub mod network;
 pub mod question;
+pub mod rule;

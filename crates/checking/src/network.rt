@@ -6,10 +6,10 @@ ghost use Rattle.checking.specs.NetworkCheck.{outcomeOf};
 use crate::check::ends_keep;
 use crate::check::junction_count_keeps;
 use crate::check::tables_agree;
-use driving::rule::fences_keep;
-use driving::rule::interval_count_keeps;
-use driving::rule::lengths_keep;
-use driving::rule::speeds_keep;
+use crate::rule::fences_keep;
+use crate::rule::interval_count_keeps;
+use crate::rule::lengths_keep;
+use crate::rule::speeds_keep;
 use model::limit::MAX_ARCS;
 use model::refusal::Refusal;
 

@@ -15,7 +15,7 @@ use Rattle.model.specs.Walks.{Net, Sound}
 use Rattle.model.specs.Labels.{noArc, labelsOf, predecessorsOf, Attains, Certified, Lowest}
 use Rattle.model.proofs.Walks.{drive-by-last, drive-never}
 use Rattle.model.proofs.OnlyTables.{only-tables}
-use Rattle.driving.proofs.Flags.{true-not-false}
+use Rattle.checking.proofs.Flags.{true-not-false}
 
 -- The settled junctions have labels up to the tick t, and the others from it on. D are the arcs that have offered: their tails are
 -- settled, as are those of the predecessors. None of them would lower a label, and none that attains one is numbered below the

@@ -24,7 +24,7 @@ use Rattle.driving.specs.ArcKept.{ArcKept}
 use Rattle.labelling.specs.Labelling.{arcFrom, Linked, lowered, taken, Rekeyed, Offerable}
 use Rattle.labelling.specs.Labels.{Labelable}
 use Rattle.labelling.specs.Tournament.{Least, Entered, keyOf}
-use Rattle.driving.proofs.Flags.{true-not-false}
+use Rattle.checking.proofs.Flags.{true-not-false}
 use Rattle.labelling.proofs.Linking.{arc-from, arc-from-least}
 use Rattle.labelling.proofs.Queue.{Queued, Nearest, none-waits, queued-starts, queued-settles, queued-lowers, queued-offered}
 use Rattle.labelling.proofs.Settling.{Settling, settling-starts, labels-at-most-never, reached-by-last, settling-weakens, settle, settled-label-stays, offer-keeps, offer-skips, offer-lowers, offer-ties, settling-ends}

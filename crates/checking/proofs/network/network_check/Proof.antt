@@ -11,7 +11,7 @@ use Rattle.model.specs.NetworkRules.{networkRules, networkCheck}
 use Rattle.model.specs.Rules.{AllKept, Rule}
 use Rattle.model.proofs.Rules.{kept-next, refused-at, kept-replies, kept-count}
 use Rattle.model.proofs.NetworkRules.{kept-tables}
-use Rattle.driving.proofs.Flags.{as-test}
+use Rattle.checking.proofs.Flags.{as-test}
 use Rattle.checking.proofs.network.network_check.Statement.{statement}
 use Rattle.checking.proofs.network.network_check.Tie as tie
 

@@ -17,7 +17,7 @@ use Rattle.model.proofs.IntervalPieces.{some-passed}
 use Rattle.driving.specs.ArcArrival.{arcRules, arcArrival, ArcAccepted}
 use Rattle.driving.specs.ArcKept.{ArcKept}
 use Rattle.driving.proofs.ArcRules.{kept-accepted, replies}
-use Rattle.driving.proofs.Flags.{as-test}
+use Rattle.checking.proofs.Flags.{as-test}
 use Rattle.driving.proofs.arc.arc_arrival.Statement.{statement}
 use Rattle.driving.proofs.arc.arc_arrival.Tie as tie
 

@@ -8,9 +8,9 @@ use lib.Dec.{leb}
 use lib.ListN.{length, drop}
 use Rattle.model.specs.Limits.{maxSpeed}
 use Rattle.model.specs.Rules.{every, speedKeeps}
-use Rattle.driving.proofs.Scan.{highest-goes-on, highest-ends}
-use Rattle.driving.proofs.rule.speeds_keep.Statement.{statement}
-use Rattle.driving.proofs.rule.speeds_keep.Tie as tie
+use Rattle.checking.proofs.Scan.{highest-goes-on, highest-ends}
+use Rattle.checking.proofs.rule.speeds_keep.Statement.{statement}
+use Rattle.checking.proofs.rule.speeds_keep.Tie as tie
 
 abbrev Inv-loop : tie.InvT-loop
 Inv-loop speeds highest₀ i₀ highest i = (leb highest maxSpeed && every speedKeeps (drop i speeds)) ≡ every speedKeeps speeds

@@ -1,7 +1,7 @@
 -- `rule::length_keeps` is the test `lengthKeeps`: where the first half fails, so does the whole.
 use borrow.Author.Tests.{lt-ltb, le-ltb}
-use Rattle.driving.proofs.rule.length_keeps.Statement.{statement}
-use Rattle.driving.proofs.rule.length_keeps.Tie as tie
+use Rattle.checking.proofs.rule.length_keeps.Statement.{statement}
+use Rattle.checking.proofs.rule.length_keeps.Tie as tie
 
 returns : tie.Need-returns
 returns c = simp (lt-ltb _ _ (c .if1 .taken))

@@ -4,9 +4,9 @@ use Prim.Native.Nat.{_-_}
 use mathlib.Core.Path.{_≡_}
 use lib.ListN.{length, drop}
 use Rattle.model.specs.Rules.{riseFrom, fencesKeep}
-use Rattle.driving.proofs.Scan.{none-keep, first-fails, first-keeps, rise-fails, rise-too-late, rise-goes-on, rise-ends}
-use Rattle.driving.proofs.rule.fences_keep.Statement.{statement}
-use Rattle.driving.proofs.rule.fences_keep.Tie as tie
+use Rattle.checking.proofs.Scan.{none-keep, first-fails, first-keeps, rise-fails, rise-too-late, rise-goes-on, rise-ends}
+use Rattle.checking.proofs.rule.fences_keep.Statement.{statement}
+use Rattle.checking.proofs.rule.fences_keep.Tie as tie
 
 abbrev Inv-loop : tie.InvT-loop
 Inv-loop fences before₀ i₀ before i = riseFrom before (drop i fences) ≡ fencesKeep fences

@@ -5,9 +5,9 @@ use mathlib.Core.Path.{_≡_, refl, sym, _∙_}
 use lib.ListN.{length, drop}
 use borrow.Author.Tests.{not-true, not-false}
 use Rattle.model.specs.Rules.{every, lengthKeeps}
-use Rattle.driving.proofs.Scan.{every-fails, every-goes-on, every-ends}
-use Rattle.driving.proofs.rule.lengths_keep.Statement.{statement}
-use Rattle.driving.proofs.rule.lengths_keep.Tie as tie
+use Rattle.checking.proofs.Scan.{every-fails, every-goes-on, every-ends}
+use Rattle.checking.proofs.rule.lengths_keep.Statement.{statement}
+use Rattle.checking.proofs.rule.lengths_keep.Tie as tie
 
 abbrev Inv-loop : tie.InvT-loop
 Inv-loop lengths a₀ a = every lengthKeeps (drop a lengths) ≡ every lengthKeeps lengths

@@ -1,3 +1,4 @@
+pub mod Asked
 pub mod EndsScan
 pub mod Flags
 pub mod QuestionRules

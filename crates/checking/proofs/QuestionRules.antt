@@ -1,31 +1,21 @@
 -- The rules that Labels and Route ask first, and their plain statement.
 use Prim.Native.Nat.{ℕ}
-use mathlib.Core.Path.{_≡_, sym, ap, _∙_}
-use mathlib.Core.Bool.{true, false, not}
+use mathlib.Core.Path.{_≡_, sym, ap}
+use mathlib.Core.Bool.{not}
 use lib.Dec.{ltb}
-use lib.ListN.{getD, take}
 use borrow.Author.Tests.{not-false, ltb-true, lt-ltb}
 use Rattle.model.specs.Ticks.{day}
 use Rattle.model.specs.Network.{Network}
 use Rattle.model.specs.NetworkRules.{networkRules, networkCheck}
-use Rattle.model.specs.Rules.{AllKept, refused, replied, _if_}
+use Rattle.model.specs.Rules.{AllKept, refused}
 use Rattle.model.proofs.NetworkRules.{kept-accepted, accepted-kept}
-use Rattle.model.proofs.Rules.{kept-replies, refused-at, refused-before, kept-before, kept-append, append-kept}
+use Rattle.model.proofs.Rules.{refused-before, kept-append, append-kept}
 use Rattle.checking.specs.Question.{startRules, questionRules, questionCheck, Taken}
 
 module _ (N : Network) (source departure : ℕ) where
   pub network-refuses : (number : ℕ) → refused number ≡ networkCheck N → refused number ≡ questionCheck N source departure
   unfolding networkCheck questionCheck
   network-refuses number e = sym (refused-before (networkRules N) (startRules N source departure) tt tt number (sym e))
-
-  pub start-refuses : AllKept (networkRules N) → (k : ℕ) → AllKept (take k (startRules N source departure)) → (getD (startRules N source departure) k (0 if false)) .broken ≡ true →
-      refused ((getD (startRules N source departure) k (0 if false)) .number) ≡ questionCheck N source departure
-  unfolding questionCheck
-  start-refuses network k kept broken = refused-at (startRules N source departure) tt k kept broken ∙ sym (kept-before (networkRules N) (startRules N source departure) tt network)
-
-  pub taken-replies : AllKept (networkRules N) → AllKept (startRules N source departure) → replied tt ≡ questionCheck N source departure
-  unfolding questionCheck
-  taken-replies network start = sym (kept-replies (questionRules N source departure) tt (append-kept (networkRules N) (startRules N source departure) network start))
 
   pub kept-taken : AllKept (questionRules N source departure) → Taken N source departure
   kept-taken kept =

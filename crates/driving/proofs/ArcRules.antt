@@ -1,17 +1,22 @@
--- Arc arrival's rules: no test fires exactly where the plain rules hold.
-use Prim.Native.Nat.{ℕ}
+-- Arc arrival's rules: no test fires exactly where the plain rules hold, and then the engine, from the departure's interval on, gives
+-- the reply.
+use Prim.Native.Nat.{ℕ, _+_, _-_, _<_}
 use mathlib.Core.Path.{_≡_, sym, ap, _∙_}
 use mathlib.Core.Bool.{not}
 use mathlib.Core.List.{List}
 use mathlib.Core.Option.{Option}
+use native.Mathlib.Omega.{arith}
 use lib.Dec.{eqb}
 use lib.ListN.{length, getD}
 use borrow.Author.Tests.{not-false, leb-true, eqb-true, ltb-false, le-leb, eq-eqb, le-ltb}
-use Rattle.model.specs.Ticks.{last, tick?}
+use Rattle.model.specs.Ticks.{last, tick?, arrivedAt}
+use Rattle.model.specs.declared.tick.Arrival.{Arrival}
 use Rattle.model.specs.Flow.{spansOf, arrival}
-use Rattle.model.specs.Intervals.{speedAt}
+use Rattle.model.specs.Intervals.{passed, speedAt}
 use Rattle.model.specs.Rules.{AllKept, replied, every, fencesKeep, lengthKeeps, speedKeeps}
 use Rattle.model.proofs.Rules.{kept-replies, replies-kept, kept-count, count-kept, kept-length, length-kept, every-at, at-every, fences-kept, kept-fences}
+use Rattle.model.proofs.IntervalPieces.{some-passed}
+use Rattle.driving.specs.ArcKept.{ArcKept}
 use Rattle.driving.specs.ArcArrival.{arcRules, arcArrival, ArcAccepted, ArcRepliesWhenAccepted}
 
 module _ (departure metres : ℕ) (fences speeds : List ℕ) where
@@ -51,6 +56,27 @@ module _ (departure metres : ℕ) (fences speeds : List ℕ) where
   pub replies : AllKept (arcRules departure metres fences speeds) → arcArrival departure metres fences speeds ≡ replied reply
   unfolding arcArrival
   replies kept = kept-replies (arcRules departure metres fences speeds) reply kept
+
+  -- The engine is handed the interval before the fences that the departure has reached.
+  module _ (kept : AllKept (arcRules departure metres fences speeds)) {reached : ℕ} (counted : reached ≡ 0 + passed fences departure) where
+    abbrev accepted : ArcAccepted departure metres fences speeds
+    accepted = kept-accepted kept
+
+    pub some-reached : 0 < reached
+    some-reached = omega (arith, counted, some-passed fences departure (accepted .fences-kept) (accepted .some-interval))
+
+    arc-kept : ArcKept departure (reached - 1) metres fences speeds
+    arc-kept = record {
+      in-time = accepted .in-time;
+      in-interval = omega (arith, counted, some-reached);
+      some-length = accepted .some-length;
+      fences-kept = accepted .fences-kept;
+      as-many = accepted .as-many;
+    }
+
+    pub engine-replies : {driven told : Arrival} → (ArcKept departure (reached - 1) metres fences speeds → arrivedAt driven ≡ reply) → driven ≡ told →
+        replied (arrivedAt told) ≡ arcArrival departure metres fences speeds
+    engine-replies promise same = ap (λ a. replied (arrivedAt a)) (sym same) ∙ ap replied (promise arc-kept) ∙ sym (replies kept)
 
 pub arc-replies-when-accepted : ArcRepliesWhenAccepted
 unfolding arcArrival

@@ -1,3 +1,3 @@
 pub mod ArcRules
 pub mod Driving
-pub mod Intervals
+pub mod FenceCount

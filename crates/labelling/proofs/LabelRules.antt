@@ -81,5 +81,5 @@ labels-replies-when-labelable N source departure labels predecessors =
 pub demand-2-of-call : Demand2OfCall
 demand-2-of-call N source departure labels predecessors e =
     let t = answered N source departure labels predecessors e .taken in
-    let tables = only-tables-of-network N (t .accepted) source departure (t .source-below) (t .departure-below) (labelsOf (netOf N) source departure) (predecessorsOf (netOf N) source departure) .1 (refl, refl) in
+    let tables = only-tables-of-network N (t .accepted) source departure (t .source-below) (t .departure-below) _ _ .1 (refl, refl) in
     rw e (demand-2 N (t .accepted) source departure (t .source-below) (t .departure-below), tables .0, tables .1)

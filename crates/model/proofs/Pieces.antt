@@ -1,12 +1,12 @@
 -- The law of the flow over a piece of constant speed. Its spans are a product, so either those left are covered in it, after as many ticks
 -- as the quotient rounded up (`stop`), or the arrival is that from its end on with what is left (`skip`).
 use Prim.Native.Nat.{ℕ, suc, _+_, _-_, _*_, _≤_, _<_}
-use mathlib.Core.Path.{_≡_, refl, sym, ap, subst}
+use mathlib.Core.Path.{_≡_, sym, ap, subst}
 use mathlib.Core.Logic.{⊎-elim}
 use native.Mathlib.Nat.{eq-zero-or-pos, div-lt-iff-lt-mul, le-div-iff-mul-le, mul-zero}
 use native.Mathlib.Omega.{arith}
 use Rattle.model.specs.Ticks.{last}
-use Rattle.model.specs.Flow.{covered, arrival, IsArrival, ticksFor, Piece, ArrivalOverPiece, NeverFromLast}
+use Rattle.model.specs.Flow.{covered, IsArrival, ticksFor, Piece, ArrivalOverPiece, NeverFromLast}
 use Rattle.model.proofs.Tests.{leb-cases}
 use Rattle.model.proofs.Covered.{covered-add, covered-more, covered-steady}
 use Rattle.model.proofs.Arrival.{arrival-is, arrival-is-least}

@@ -4,7 +4,7 @@ use Prim.Native.Nat.{_+_, _-_}
 use mathlib.Core.Path.{_≡_, refl}
 use lib.ListN.{length, drop}
 use Rattle.model.specs.Intervals.{passed}
-use Rattle.driving.proofs.Intervals.{passed-stops, passed-goes-on, passed-ends}
+use Rattle.driving.proofs.FenceCount.{passed-stops, passed-goes-on, passed-ends}
 use Rattle.driving.proofs.drive.fences_passed.Statement.{statement}
 use Rattle.driving.proofs.drive.fences_passed.Tie as tie
 

@@ -1,3 +1,2 @@
 pub mod HostAnswers
 pub mod HostSteps
-pub mod Starred

@@ -2,7 +2,8 @@
 ghost use mathlib.Core.Path.{_≡_};
 ghost use Prim.Native.Nat.{_+_};
 ghost use Rattle.model.specs.Refusals.{refusalBase};
-ghost use Rattle.townfile.specs.Load.{counts, tables, LongEnough, networkAt};
+ghost use Rattle.townfile.specs.Load.{counts, LongEnough, networkAt};
+ghost use Rattle.townfile.specs.Lent.{lentTables, tablesIn};
 ghost use Rattle.loading.specs.Loaded.{readingOf};
 ghost use Rattle.routing.specs.Route.{outcomeOf, arrivalOf, routeAnswer, routeArrival};
 ghost use Rattle.cabinet.specs.Host.{loadNumber, routeNumber, hostAnswer};
@@ -58,9 +59,9 @@ fn route_in_tables(
     destination: u32,
     list: &mut [u16],
 ) -> Routed
-    requires { ⌜ LongEnough (counts junctions intervals arcs) (tables (now fences) (now tails) (now heads) (now lengths) (now speeds)) ⌝ }
-    ensures answer { λ r. ⌜ outcomeOf r ≡ routeAnswer (networkAt (counts junctions intervals arcs) (tables (now (fences .entry)) (now (tails .entry)) (now (heads .entry)) (now (lengths .entry)) (now (speeds .entry)))) source departure destination (now (list .entry)) ⌝ }
-    ensures arrival { λ r. ⌜ arrivalOf r ≡ routeArrival (networkAt (counts junctions intervals arcs) (tables (now (fences .entry)) (now (tails .entry)) (now (heads .entry)) (now (lengths .entry)) (now (speeds .entry)))) source departure destination (now (list .entry)) ⌝ }
+    requires { ⌜ LongEnough (counts junctions intervals arcs) (tablesIn fences tails heads lengths speeds) ⌝ }
+    ensures answer { λ r. ⌜ outcomeOf r ≡ routeAnswer (networkAt (counts junctions intervals arcs) (lentTables fences tails heads lengths speeds)) source departure destination (now (list .entry)) ⌝ }
+    ensures arrival { λ r. ⌜ arrivalOf r ≡ routeArrival (networkAt (counts junctions intervals arcs) (lentTables fences tails heads lengths speeds)) source departure destination (now (list .entry)) ⌝ }
 {
     let speed_count = arcs * intervals;
     route(

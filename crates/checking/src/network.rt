@@ -1,7 +1,7 @@
 // Network check: whether the tables describe a network.
 ghost use mathlib.Core.Path.{_≡_};
-ghost use Rattle.model.specs.Network.{network};
 ghost use Rattle.model.specs.NetworkRules.{networkCheck};
+ghost use Rattle.model.specs.Lent.{lentNetwork};
 ghost use Rattle.checking.specs.NetworkCheck.{outcomeOf};
 use crate::check::ends_keep;
 use crate::check::junction_count_keeps;
@@ -27,7 +27,7 @@ pub fn network_check(
     lengths: &[u32],
     speeds: &[u8],
 ) -> NetworkCheck
-    ensures { λ r. ⌜ outcomeOf r ≡ networkCheck (network junctions (now (fences .entry)) (now (tails .entry)) (now (heads .entry)) (now (lengths .entry)) (now (speeds .entry))) ⌝ }
+    ensures { λ r. ⌜ outcomeOf r ≡ networkCheck (lentNetwork junctions fences tails heads lengths speeds) ⌝ }
 {
     if !junction_count_keeps(junctions) {
         return NetworkCheck::Refused(Refusal::JunctionCount);

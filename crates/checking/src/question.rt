@@ -1,6 +1,6 @@
 // The rules that Labels and Route ask first: the network's own, and those on the source and the departure.
 ghost use mathlib.Core.Path.{_≡_};
-ghost use Rattle.model.specs.Network.{network};
+ghost use Rattle.model.specs.Lent.{lentNetwork};
 ghost use Rattle.checking.specs.NetworkCheck.{outcomeOf};
 ghost use Rattle.checking.specs.Question.{questionCheck};
 use crate::network::NetworkCheck;
@@ -18,7 +18,7 @@ pub fn question_check(
     source: u32,
     tick: u32,
 ) -> NetworkCheck
-    ensures { λ r. ⌜ outcomeOf r ≡ questionCheck (network junctions (now (fences .entry)) (now (tails .entry)) (now (heads .entry)) (now (lengths .entry)) (now (speeds .entry))) source tick ⌝ }
+    ensures { λ r. ⌜ outcomeOf r ≡ questionCheck (lentNetwork junctions fences tails heads lengths speeds) source tick ⌝ }
 {
     if let NetworkCheck::Refused(refusal) = network_check(
         junctions,

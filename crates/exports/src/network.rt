@@ -1,7 +1,7 @@
 // Network check, Arc arrival, Labels and Route, over lent tables.
 ghost use mathlib.Core.Path.{_≡_};
-ghost use Rattle.model.specs.Network.{network};
 ghost use Rattle.model.specs.NetworkRules.{networkCheck};
+ghost use Rattle.model.specs.Lent.{lentNetwork};
 ghost use Rattle.driving.specs.ArcArrival.{arcArrival};
 ghost use Rattle.labelling.specs.Labels.{labelsAnswer, labelsAfter, predecessorsAfter};
 ghost use Rattle.routing.specs.Route.{routeAnswer, arcsAfter};
@@ -26,7 +26,7 @@ pub extern "C" fn exports_network_check(
     lengths: &[u32],
     speeds: &[u8],
 ) -> u32
-    ensures { λ r. ⌜ r ≡ numberOr0 (networkCheck (network junctions (now (fences .entry)) (now (tails .entry)) (now (heads .entry)) (now (lengths .entry)) (now (speeds .entry)))) ⌝ }
+    ensures { λ r. ⌜ r ≡ numberOr0 (networkCheck (lentNetwork junctions fences tails heads lengths speeds)) ⌝ }
 {
     match network_check(junctions, fences, tails, heads, lengths, speeds) {
         NetworkCheck::Accepted => 0,
@@ -65,9 +65,9 @@ pub extern "C" fn exports_labels(
     labels: &mut [u32],
     predecessors: &mut [u16],
 ) -> u32
-    ensures answer { λ r. ⌜ r ≡ numberOr0 (labelsAnswer (network junctions (now (fences .entry)) (now (tails .entry)) (now (heads .entry)) (now (lengths .entry)) (now (speeds .entry))) source departure (now (labels .entry)) (now (predecessors .entry))) ⌝ }
-    ensures labels { λ _. ⌜ now (labels .exit) ≡ labelsAfter (network junctions (now (fences .entry)) (now (tails .entry)) (now (heads .entry)) (now (lengths .entry)) (now (speeds .entry))) source departure (now (labels .entry)) (now (predecessors .entry)) ⌝ }
-    ensures predecessors { λ _. ⌜ now (predecessors .exit) ≡ predecessorsAfter (network junctions (now (fences .entry)) (now (tails .entry)) (now (heads .entry)) (now (lengths .entry)) (now (speeds .entry))) source departure (now (labels .entry)) (now (predecessors .entry)) ⌝ }
+    ensures answer { λ r. ⌜ r ≡ numberOr0 (labelsAnswer (lentNetwork junctions fences tails heads lengths speeds) source departure (now (labels .entry)) (now (predecessors .entry))) ⌝ }
+    ensures labels { λ _. ⌜ now (labels .exit) ≡ labelsAfter (lentNetwork junctions fences tails heads lengths speeds) source departure (now (labels .entry)) (now (predecessors .entry)) ⌝ }
+    ensures predecessors { λ _. ⌜ now (predecessors .exit) ≡ predecessorsAfter (lentNetwork junctions fences tails heads lengths speeds) source departure (now (labels .entry)) (now (predecessors .entry)) ⌝ }
 {
     match labelling::labels::labels(
         junctions,
@@ -100,8 +100,8 @@ pub extern "C" fn exports_route(
     destination: u32,
     arcs: &mut [u16],
 ) -> u32
-    ensures answer { λ r. ⌜ r ≡ countCode (routeAnswer (network junctions (now (fences .entry)) (now (tails .entry)) (now (heads .entry)) (now (lengths .entry)) (now (speeds .entry))) source departure destination (now (arcs .entry))) ⌝ }
-    ensures arcs { λ _. ⌜ now (arcs .exit) ≡ arcsAfter (network junctions (now (fences .entry)) (now (tails .entry)) (now (heads .entry)) (now (lengths .entry)) (now (speeds .entry))) source departure destination (now (arcs .entry)) ⌝ }
+    ensures answer { λ r. ⌜ r ≡ countCode (routeAnswer (lentNetwork junctions fences tails heads lengths speeds) source departure destination (now (arcs .entry))) ⌝ }
+    ensures arcs { λ _. ⌜ now (arcs .exit) ≡ arcsAfter (lentNetwork junctions fences tails heads lengths speeds) source departure destination (now (arcs .entry)) ⌝ }
 {
     match route(
         junctions,

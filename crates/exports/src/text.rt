@@ -1,7 +1,8 @@
 // Load and Name, over a town file.
 ghost use mathlib.Core.Path.{_≡_};
-ghost use Rattle.townfile.specs.Load.{tables, loadAnswer, tablesAfter};
+ghost use Rattle.townfile.specs.Load.{loadAnswer, tablesAfter};
 ghost use Rattle.townfile.specs.Name.{namePlace};
+ghost use Rattle.townfile.specs.Lent.{lentTables};
 ghost use Rattle.exports.specs.Codes.{loadCode, placeCode};
 use loading::load::Loaded;
 use loading::load::load;
@@ -24,12 +25,12 @@ pub extern "C" fn exports_load(
     lengths: &mut [u32],
     speeds: &mut [u8],
 ) -> u64
-    ensures answer { λ r. ⌜ r ≡ loadCode (loadAnswer (now (text .entry)) (tables (now (fences .entry)) (now (tails .entry)) (now (heads .entry)) (now (lengths .entry)) (now (speeds .entry)))) ⌝ }
-    ensures fences { λ _. ⌜ now (fences .exit) ≡ tablesAfter (now (text .entry)) (tables (now (fences .entry)) (now (tails .entry)) (now (heads .entry)) (now (lengths .entry)) (now (speeds .entry))) .fences ⌝ }
-    ensures tails { λ _. ⌜ now (tails .exit) ≡ tablesAfter (now (text .entry)) (tables (now (fences .entry)) (now (tails .entry)) (now (heads .entry)) (now (lengths .entry)) (now (speeds .entry))) .tails ⌝ }
-    ensures heads { λ _. ⌜ now (heads .exit) ≡ tablesAfter (now (text .entry)) (tables (now (fences .entry)) (now (tails .entry)) (now (heads .entry)) (now (lengths .entry)) (now (speeds .entry))) .heads ⌝ }
-    ensures lengths { λ _. ⌜ now (lengths .exit) ≡ tablesAfter (now (text .entry)) (tables (now (fences .entry)) (now (tails .entry)) (now (heads .entry)) (now (lengths .entry)) (now (speeds .entry))) .lengths ⌝ }
-    ensures speeds { λ _. ⌜ now (speeds .exit) ≡ tablesAfter (now (text .entry)) (tables (now (fences .entry)) (now (tails .entry)) (now (heads .entry)) (now (lengths .entry)) (now (speeds .entry))) .speeds ⌝ }
+    ensures answer { λ r. ⌜ r ≡ loadCode (loadAnswer (now (text .entry)) (lentTables fences tails heads lengths speeds)) ⌝ }
+    ensures fences { λ _. ⌜ now (fences .exit) ≡ tablesAfter (now (text .entry)) (lentTables fences tails heads lengths speeds) .fences ⌝ }
+    ensures tails { λ _. ⌜ now (tails .exit) ≡ tablesAfter (now (text .entry)) (lentTables fences tails heads lengths speeds) .tails ⌝ }
+    ensures heads { λ _. ⌜ now (heads .exit) ≡ tablesAfter (now (text .entry)) (lentTables fences tails heads lengths speeds) .heads ⌝ }
+    ensures lengths { λ _. ⌜ now (lengths .exit) ≡ tablesAfter (now (text .entry)) (lentTables fences tails heads lengths speeds) .lengths ⌝ }
+    ensures speeds { λ _. ⌜ now (speeds .exit) ≡ tablesAfter (now (text .entry)) (lentTables fences tails heads lengths speeds) .speeds ⌝ }
 {
     match load(text, fences, tails, heads, lengths, speeds) {
         Loaded::Counts {

@@ -5,7 +5,8 @@ ghost use lib.ListN.{length, getD, replicate};
 ghost use Rattle.model.specs.Ticks.{never, arrivedAt};
 ghost use Rattle.model.specs.Labels.{noArc, labelsOf, predecessorsOf};
 ghost use Rattle.model.specs.Limits.{maxArcs, maxJunctions};
-ghost use Rattle.model.specs.Network.{network, netOf};
+ghost use Rattle.model.specs.Network.{netOf};
+ghost use Rattle.model.specs.Lent.{lentNetwork, networkIn};
 ghost use Rattle.labelling.specs.Labels.{Labelable};
 ghost use Rattle.labelling.specs.Labelling.{Linked, Offerable, Rekeyed, arrivalOn, labelOf, lowered, taken};
 use crate::tournament::NODES;
@@ -115,9 +116,9 @@ pub(crate) fn label_all(
     labels: &mut [u32],
     predecessors: &mut [u16],
 )
-    requires { ⌜ Labelable (network junctions (now fences) (now tails) (now heads) (now lengths) (now speeds)) source departure (now labels) (now predecessors) ⌝ }
-    ensures labels { λ _. ⌜ now (labels .exit) ≡ labelsOf (netOf (network junctions (now (fences .entry)) (now (tails .entry)) (now (heads .entry)) (now (lengths .entry)) (now (speeds .entry)))) source departure ⌝ }
-    ensures predecessors { λ _. ⌜ now (predecessors .exit) ≡ predecessorsOf (netOf (network junctions (now (fences .entry)) (now (tails .entry)) (now (heads .entry)) (now (lengths .entry)) (now (speeds .entry)))) source departure ⌝ }
+    requires { ⌜ Labelable (networkIn junctions fences tails heads lengths speeds) source departure (now labels) (now predecessors) ⌝ }
+    ensures labels { λ _. ⌜ now (labels .exit) ≡ labelsOf (netOf (lentNetwork junctions fences tails heads lengths speeds)) source departure ⌝ }
+    ensures predecessors { λ _. ⌜ now (predecessors .exit) ≡ predecessorsOf (netOf (lentNetwork junctions fences tails heads lengths speeds)) source departure ⌝ }
 {
     clear(labels, predecessors);
     labels[source] = departure;

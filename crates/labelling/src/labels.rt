@@ -1,6 +1,6 @@
 // Labels: the earliest arrival at every junction, and the arc by which it is reached.
 ghost use mathlib.Core.Path.{_≡_};
-ghost use Rattle.model.specs.Network.{network};
+ghost use Rattle.model.specs.Lent.{lentNetwork};
 ghost use Rattle.labelling.specs.Labels.{outcomeOf, labelsAnswer, labelsAfter, predecessorsAfter};
 use crate::labelling::label_all;
 use checking::network::NetworkCheck;
@@ -25,9 +25,9 @@ pub fn labels(
     labels: &mut [u32],
     predecessors: &mut [u16],
 ) -> Labelled
-    ensures answer { λ r. ⌜ outcomeOf r ≡ labelsAnswer (network junctions (now (fences .entry)) (now (tails .entry)) (now (heads .entry)) (now (lengths .entry)) (now (speeds .entry))) source (departure .number) (now (labels .entry)) (now (predecessors .entry)) ⌝ }
-    ensures labels { λ _. ⌜ now (labels .exit) ≡ labelsAfter (network junctions (now (fences .entry)) (now (tails .entry)) (now (heads .entry)) (now (lengths .entry)) (now (speeds .entry))) source (departure .number) (now (labels .entry)) (now (predecessors .entry)) ⌝ }
-    ensures predecessors { λ _. ⌜ now (predecessors .exit) ≡ predecessorsAfter (network junctions (now (fences .entry)) (now (tails .entry)) (now (heads .entry)) (now (lengths .entry)) (now (speeds .entry))) source (departure .number) (now (labels .entry)) (now (predecessors .entry)) ⌝ }
+    ensures answer { λ r. ⌜ outcomeOf r ≡ labelsAnswer (lentNetwork junctions fences tails heads lengths speeds) source (departure .number) (now (labels .entry)) (now (predecessors .entry)) ⌝ }
+    ensures labels { λ _. ⌜ now (labels .exit) ≡ labelsAfter (lentNetwork junctions fences tails heads lengths speeds) source (departure .number) (now (labels .entry)) (now (predecessors .entry)) ⌝ }
+    ensures predecessors { λ _. ⌜ now (predecessors .exit) ≡ predecessorsAfter (lentNetwork junctions fences tails heads lengths speeds) source (departure .number) (now (labels .entry)) (now (predecessors .entry)) ⌝ }
 {
     let tick = departure.number;
     if let NetworkCheck::Refused(refusal) = question_check(

@@ -2,7 +2,8 @@
 ghost use mathlib.Core.Path.{_≡_};
 ghost use mathlib.Core.Bool.{_||_};
 ghost use lib.Dec.{ltb};
-ghost use Rattle.townfile.specs.Load.{tables, lacksRoom, loadAnswer, tablesAfter};
+ghost use Rattle.townfile.specs.Load.{lacksRoom, loadAnswer, tablesAfter};
+ghost use Rattle.townfile.specs.Lent.{lentTables};
 ghost use Rattle.loading.specs.Loaded.{readingOf};
 use crate::fill::fill;
 use crate::scan::Scanned;
@@ -69,12 +70,12 @@ pub fn load(
     lengths: &mut [u32],
     speeds: &mut [u8],
 ) -> Loaded
-    ensures answer { λ r. ⌜ readingOf r ≡ loadAnswer (now (text .entry)) (tables (now (fences .entry)) (now (tails .entry)) (now (heads .entry)) (now (lengths .entry)) (now (speeds .entry))) ⌝ }
-    ensures fences { λ _. ⌜ now (fences .exit) ≡ tablesAfter (now (text .entry)) (tables (now (fences .entry)) (now (tails .entry)) (now (heads .entry)) (now (lengths .entry)) (now (speeds .entry))) .fences ⌝ }
-    ensures tails { λ _. ⌜ now (tails .exit) ≡ tablesAfter (now (text .entry)) (tables (now (fences .entry)) (now (tails .entry)) (now (heads .entry)) (now (lengths .entry)) (now (speeds .entry))) .tails ⌝ }
-    ensures heads { λ _. ⌜ now (heads .exit) ≡ tablesAfter (now (text .entry)) (tables (now (fences .entry)) (now (tails .entry)) (now (heads .entry)) (now (lengths .entry)) (now (speeds .entry))) .heads ⌝ }
-    ensures lengths { λ _. ⌜ now (lengths .exit) ≡ tablesAfter (now (text .entry)) (tables (now (fences .entry)) (now (tails .entry)) (now (heads .entry)) (now (lengths .entry)) (now (speeds .entry))) .lengths ⌝ }
-    ensures speeds { λ _. ⌜ now (speeds .exit) ≡ tablesAfter (now (text .entry)) (tables (now (fences .entry)) (now (tails .entry)) (now (heads .entry)) (now (lengths .entry)) (now (speeds .entry))) .speeds ⌝ }
+    ensures answer { λ r. ⌜ readingOf r ≡ loadAnswer (now (text .entry)) (lentTables fences tails heads lengths speeds) ⌝ }
+    ensures fences { λ _. ⌜ now (fences .exit) ≡ tablesAfter (now (text .entry)) (lentTables fences tails heads lengths speeds) .fences ⌝ }
+    ensures tails { λ _. ⌜ now (tails .exit) ≡ tablesAfter (now (text .entry)) (lentTables fences tails heads lengths speeds) .tails ⌝ }
+    ensures heads { λ _. ⌜ now (heads .exit) ≡ tablesAfter (now (text .entry)) (lentTables fences tails heads lengths speeds) .heads ⌝ }
+    ensures lengths { λ _. ⌜ now (lengths .exit) ≡ tablesAfter (now (text .entry)) (lentTables fences tails heads lengths speeds) .lengths ⌝ }
+    ensures speeds { λ _. ⌜ now (speeds .exit) ≡ tablesAfter (now (text .entry)) (lentTables fences tails heads lengths speeds) .speeds ⌝ }
 {
     match scan(text) {
         Scanned::Refused { refusal, line } => Loaded::Refused { refusal, line },

@@ -2,6 +2,7 @@ pub mod Demands
 pub mod Flow
 pub mod Intervals
 pub mod Labels
+pub mod Lent
 pub mod Limits
 pub mod Network
 pub mod NetworkRules

@@ -4,8 +4,8 @@ ghost use Prim.Native.Nat.{_≤_};
 ghost use lib.ListN.{length};
 ghost use mathlib.Core.List.{reverse};
 ghost use Rattle.model.specs.Limits.{maxJunctions};
-ghost use Rattle.model.specs.Network.{network};
 ghost use Rattle.model.specs.Rules.{written};
+ghost use Rattle.model.specs.Lent.{lentNetwork};
 ghost use Rattle.routing.specs.Following.{backFrom, Leads, Reached, Follows};
 ghost use Rattle.routing.specs.Route.{outcomeOf, arrivalOf, routeAnswer, routeArrival, arcsAfter};
 use labelling::labels::Labelled;
@@ -108,9 +108,9 @@ pub fn route(
     destination: u32,
     arcs: &mut [u16],
 ) -> Routed
-    ensures answer { λ r. ⌜ outcomeOf r ≡ routeAnswer (network junctions (now (fences .entry)) (now (tails .entry)) (now (heads .entry)) (now (lengths .entry)) (now (speeds .entry))) source (departure .number) destination (now (arcs .entry)) ⌝ }
-    ensures arrival { λ r. ⌜ arrivalOf r ≡ routeArrival (network junctions (now (fences .entry)) (now (tails .entry)) (now (heads .entry)) (now (lengths .entry)) (now (speeds .entry))) source (departure .number) destination (now (arcs .entry)) ⌝ }
-    ensures arcs { λ _. ⌜ now (arcs .exit) ≡ arcsAfter (network junctions (now (fences .entry)) (now (tails .entry)) (now (heads .entry)) (now (lengths .entry)) (now (speeds .entry))) source (departure .number) destination (now (arcs .entry)) ⌝ }
+    ensures answer { λ r. ⌜ outcomeOf r ≡ routeAnswer (lentNetwork junctions fences tails heads lengths speeds) source (departure .number) destination (now (arcs .entry)) ⌝ }
+    ensures arrival { λ r. ⌜ arrivalOf r ≡ routeArrival (lentNetwork junctions fences tails heads lengths speeds) source (departure .number) destination (now (arcs .entry)) ⌝ }
+    ensures arcs { λ _. ⌜ now (arcs .exit) ≡ arcsAfter (lentNetwork junctions fences tails heads lengths speeds) source (departure .number) destination (now (arcs .entry)) ⌝ }
 {
     let n = junctions as usize;
     if MAX_JUNCTIONS < n {

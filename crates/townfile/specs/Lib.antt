@@ -1,6 +1,7 @@
 pub mod Bytes
 pub mod FirstFault
 pub mod Grammar
+pub mod Lent
 pub mod LineFaults
 pub mod Lines
 pub mod Load

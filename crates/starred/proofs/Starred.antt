@@ -32,7 +32,7 @@ use Rattle.townfile.specs.Tables.{marked, townOf}
 use Rattle.townfile.specs.Load.{Tables, loadAnswer, tablesAfter}
 use Rattle.townfile.specs.declared.progress.Progress.{Progress}
 use Rattle.townfile.proofs.Described.{describes-when-faultless}
-use Rattle.cabinet.specs.Rows.{Row, LabelsAre, Holds, _also_, no-more, sampleText, sampleWithoutComment, StarredRows}
+use Rattle.starred.specs.Rows.{Row, LabelsAre, Holds, _also_, no-more, sampleText, sampleWithoutComment, StarredRows}
 
 -- An arc that comes to stand short of its end is never driven: its two intervals are pieces of constant speed, and the last tick ends them.
 standing-row : Holds (Row.arc 2 (0 ∷ 100 ∷ []) (36 ∷ 0 ∷ []) 99 none)

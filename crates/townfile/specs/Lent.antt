@@ -1,0 +1,13 @@
+-- The tables that are lent to Load or for what was loaded, by which contracts name them: as a function finds them, and as they were lent.
+use Prim.Native.Nat.{ℕ}
+use mathlib.Core.List.{List}
+use denote.Ref.{RefT}
+use denote.Triple.Both.{Both}
+use Rattle.townfile.specs.Load.{Tables, tables}
+
+abbrev pub tablesIn : RefT (List ℕ) → RefT (List ℕ) → RefT (List ℕ) → RefT (List ℕ) → RefT (List ℕ) → Tables
+tablesIn fences tails heads lengths speeds = tables (fences .now) (tails .now) (heads .now) (lengths .now) (speeds .now)
+
+-- For what a function ensures, where a table's name stands for the table at entry and at exit.
+abbrev pub lentTables : {A B C D E : Type 0} → Both (RefT (List ℕ)) A → Both (RefT (List ℕ)) B → Both (RefT (List ℕ)) C → Both (RefT (List ℕ)) D → Both (RefT (List ℕ)) E → Tables
+lentTables fences tails heads lengths speeds = tablesIn (fences .entry) (tails .entry) (heads .entry) (lengths .entry) (speeds .entry)

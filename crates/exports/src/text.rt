@@ -6,7 +6,7 @@ ghost use Rattle.townfile.specs.Lent.{lentTables};
 ghost use Rattle.exports.specs.Codes.{loadCode, placeCode};
 use loading::load::Loaded;
 use loading::load::load;
-use loading::name::name_place;
+use naming::name::name_place;
 
 const BIT_16: u64 = 1 << 16;
 

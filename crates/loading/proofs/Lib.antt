@@ -3,7 +3,4 @@ pub mod Fillable
 pub mod Filling
 pub mod Loaded
 pub mod MarkedFrom
-pub mod Naming
-pub mod RestLines
-pub mod Scanning
 pub mod Taking

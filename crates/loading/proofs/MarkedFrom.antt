@@ -12,7 +12,7 @@ use Rattle.townfile.specs.Bytes.{lineFeed, pieces}
 use Rattle.townfile.specs.Lines.{markOf}
 use Rattle.townfile.specs.Tables.{marked}
 use Rattle.reading.specs.Fields.{lineFrom}
-use Rattle.loading.proofs.RestLines.{next-lines, last-line}
+use Rattle.scanning.proofs.RestLines.{next-lines, last-line}
 
 abbrev pub markedFrom : ℕ → List ℕ → ℕ → List (List ℕ)
 markedFrom mark text at = marked mark (pieces lineFeed (drop at text))

@@ -1,4 +1,2 @@
 pub mod Filling
 pub mod Loaded
-pub mod Naming
-pub mod Scans

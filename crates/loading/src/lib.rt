@@ -1,6 +1,3 @@
-// Load and Name: reading a town file. A scan finds the first fault or the counts and writes nothing; the tables are filled only
-// after it, from the text again.
+// Load: a town file into lent tables. Only a text in which the scan finds no fault is read again, to fill them.
 mod fill;
 pub mod load;
-pub mod name;
-mod scan;

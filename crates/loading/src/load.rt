@@ -6,9 +6,9 @@ ghost use Rattle.townfile.specs.Load.{lacksRoom, loadAnswer, tablesAfter};
 ghost use Rattle.townfile.specs.Lent.{lentTables};
 ghost use Rattle.loading.specs.Loaded.{readingOf};
 use crate::fill::fill;
-use crate::scan::Scanned;
-use crate::scan::scan;
 use model::refusal::Refusal;
+use scanning::scan::Scanned;
+use scanning::scan::scan;
 
 pub enum Loaded {
     Counts {

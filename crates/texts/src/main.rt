@@ -5,7 +5,7 @@ ghost use lib.ListN.{length};
 use libc::STDOUT_FILENO;
 use loading::load::Loaded;
 use loading::load::load;
-use loading::name::name;
+use naming::name::name;
 use streams::input::read_all;
 use streams::transfer::Transfer;
 

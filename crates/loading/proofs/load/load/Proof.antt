@@ -6,7 +6,7 @@ use denote.Ref.{now}
 use Rattle.townfile.specs.Grammar.{Bytes}
 use Rattle.townfile.specs.FirstFault.{accepted, firstFault}
 use Rattle.townfile.specs.Load.{Tables, tables, countsOf, tooShort}
-use Rattle.loading.specs.Scans.{readingOf}
+use Rattle.scanning.specs.Scans.{readingOf}
 use Rattle.loading.proofs.Fillable.{accepted-fillable}
 use Rattle.loading.proofs.Loaded.{load-refused, load-short, load-filled, table-by-table}
 use Rattle.loading.proofs.load.load.Statement.{statement}

@@ -10,8 +10,8 @@ use Rattle.townfile.specs.FirstFault.{Reading, refusedAt, accepted}
 use Rattle.townfile.specs.declared.progress.Progress.{Progress}
 use Rattle.reading.specs.Fields.{lineFrom}
 use Rattle.reading.specs.LineSteps.{Step, lineStep}
-use Rattle.loading.specs.declared.scan.Scanned.{Scanned}
-use Rattle.loading.specs.declared.scan.Scanned.the-variants.{Read, Refused}
+use Rattle.scanning.specs.declared.scan.Scanned.{Scanned}
+use Rattle.scanning.specs.declared.scan.Scanned.the-variants.{Read, Refused}
 
 abbrev pub readingOf : Scanned → Reading Progress
 readingOf (Read p) = accepted p

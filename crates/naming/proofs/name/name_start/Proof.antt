@@ -8,9 +8,9 @@ use Rattle.townfile.specs.Lines.{markJN, markOf}
 use Rattle.reading.specs.Fields.{lineFrom, fieldAt}
 use Rattle.reading.specs.declared.field.Field.the-variants.{Number}
 use Rattle.reading.proofs.LineFrom.{line-inside}
-use Rattle.loading.proofs.Naming.{other-mark, other-junction, this-junction, name-begins, field-not-malformed, next-is}
-use Rattle.loading.proofs.name.name_start.Statement.{statement}
-use Rattle.loading.proofs.name.name_start.Tie as tie
+use Rattle.naming.proofs.Naming.{other-mark, other-junction, this-junction, name-begins, field-not-malformed, next-is}
+use Rattle.naming.proofs.name.name_start.Statement.{statement}
+use Rattle.naming.proofs.name.name_start.Tie as tie
 
 returns : tie.Need-returns
 returns c = other-mark _ _ _ (λ is. c .if1 .taken (c .before .mark-at .ensures ∙ is))

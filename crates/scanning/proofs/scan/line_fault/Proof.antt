@@ -1,9 +1,9 @@
 -- `scan::line_fault`: the line's end decides first.
 use borrow.Author.Needs.{needs}
 use mathlib.Core.Path.{sym, _∙_}
-use Rattle.loading.proofs.Scanning.{fault-unended, fault-long, fault-itself}
-use Rattle.loading.proofs.scan.line_fault.Statement.{statement}
-use Rattle.loading.proofs.scan.line_fault.Tie as tie
+use Rattle.scanning.proofs.Scanning.{fault-unended, fault-long, fault-itself}
+use Rattle.scanning.proofs.scan.line_fault.Statement.{statement}
+use Rattle.scanning.proofs.scan.line_fault.Tie as tie
 
 returns : tie.Need-returns
 returns c = fault-unended _ _ _ (sym (c .before .line-end .ensures) ∙ c .if1 .taken)

@@ -20,9 +20,9 @@ use Rattle.townfile.specs.declared.progress.Progress.{Progress}
 use Rattle.townfile.proofs.Pieces.{pieces-next}
 use Rattle.reading.specs.Fields.{lineFrom}
 use Rattle.reading.specs.LineSteps.{Step, step, lineStep}
-use Rattle.loading.specs.Scans.{faultOf, unlessFault, wholeLine}
+use Rattle.scanning.specs.Scans.{faultOf, unlessFault, wholeLine}
 use Rattle.reading.proofs.LineFrom.{line-inside}
-use Rattle.loading.proofs.RestLines.{next-lines, last-line}
+use Rattle.scanning.proofs.RestLines.{next-lines, last-line}
 
 replied-same : {s t : Step} → replied s ≡ replied t → s ≡ t
 replied-same e = cc

@@ -6,8 +6,8 @@ use native.Mathlib.Omega.{arith}
 use denote.Ref.{now}
 use Rattle.townfile.specs.Name.{nameOf, StandsAt}
 use Rattle.townfile.proofs.NamePlace.{name-stands-at-place}
-use Rattle.loading.proofs.name.name.Statement.{statement}
-use Rattle.loading.proofs.name.name.Tie as tie
+use Rattle.naming.proofs.name.name.Statement.{statement}
+use Rattle.naming.proofs.name.name.Tie as tie
 
 stands : (c : tie.After-name-place) → let text = now (c .before .before .args .text) in StandsAt text (c .name-place .result) (nameOf text (c .before .before .args .junction))
 stands c = rw (c .name-place .ensures) (name-stands-at-place _ _)

@@ -4,13 +4,13 @@ ghost use Rattle.townfile.specs.Bytes.{lineFeed, pieces};
 ghost use Rattle.townfile.specs.Grammar.{Each};
 ghost use Rattle.townfile.specs.Name.{nameOf, placeAmong, namePlace};
 ghost use Rattle.reading.specs.Fields.{lineFrom};
-ghost use Rattle.loading.specs.Naming.{LineNames, nameStart};
-use crate::scan::Scanned;
-use crate::scan::scan;
+ghost use Rattle.naming.specs.Naming.{LineNames, nameStart};
 use reading::field::Field;
 use reading::field::line_end;
 use reading::field::mark_at;
 use reading::field::read_field;
+use scanning::scan::Scanned;
+use scanning::scan::scan;
 use townfile::mark::JUNCTION;
 use townfile::part::Part;
 

@@ -5,12 +5,12 @@ use mathlib.Core.Path.{_≡_, sym, _∙_}
 use native.Mathlib.Omega.{arith}
 use lib.ListN.{length}
 use denote.Ref.{now}
-use Rattle.loading.specs.Naming.{nameStart}
-use Rattle.loading.specs.declared.name.NameStart.the-variants.{At}
+use Rattle.naming.specs.Naming.{nameStart}
+use Rattle.naming.specs.declared.name.NameStart.the-variants.{At}
 use Rattle.reading.proofs.LineFrom.{line-inside}
-use Rattle.loading.proofs.Naming.{NamesLeft, all-left, none-left, line-named, line-passed, starts-inside, name-found}
-use Rattle.loading.proofs.name.find_name.Statement.{statement}
-use Rattle.loading.proofs.name.find_name.Tie as tie
+use Rattle.naming.proofs.Naming.{NamesLeft, all-left, none-left, line-named, line-passed, starts-inside, name-found}
+use Rattle.naming.proofs.name.find_name.Statement.{statement}
+use Rattle.naming.proofs.name.find_name.Tie as tie
 
 abbrev Inv-loop : tie.InvT-loop
 Inv-loop text junction at₀ at = NamesLeft text junction at

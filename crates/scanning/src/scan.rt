@@ -5,7 +5,7 @@ ghost use lib.ListN.{length};
 ghost use Rattle.model.specs.Refusals.{numberOf};
 ghost use Rattle.townfile.specs.FirstFault.{firstFault};
 ghost use Rattle.reading.specs.LineSteps.{outcomeOf};
-ghost use Rattle.loading.specs.Scans.{readingOf, faultOf, wholeLine};
+ghost use Rattle.scanning.specs.Scans.{readingOf, faultOf, wholeLine};
 use model::refusal::Refusal;
 use reading::field::line_end;
 use reading::line::LineRead;
@@ -14,7 +14,7 @@ use townfile::limit::MAX_LINE;
 use townfile::limit::MAX_TEXT;
 use townfile::progress::Progress;
 
-pub(crate) enum Scanned {
+pub enum Scanned {
     Read(Progress),
     Refused { refusal: Refusal, line: u32 },
 }
@@ -53,7 +53,7 @@ fn next_line(progress: Progress, text: &[u8], at: usize) -> LineRead
     }
 }
 
-pub(crate) fn scan(text: &[u8]) -> Scanned
+pub fn scan(text: &[u8]) -> Scanned
     ensures { λ r. ⌜ readingOf r ≡ firstFault (now (text .entry)) ⌝ }
 {
     if MAX_TEXT < text.len() {

@@ -8,8 +8,8 @@ use Rattle.townfile.specs.Lines.{markJN, markOf, markAlone, numberField, nameFi
 use Rattle.townfile.specs.Numbers.{numberKeeps}
 use Rattle.townfile.specs.Name.{namesIt}
 use Rattle.reading.specs.Fields.{lineFrom}
-use Rattle.loading.specs.declared.name.NameStart.{NameStart}
-use Rattle.loading.specs.declared.name.NameStart.the-variants.{At, Other}
+use Rattle.naming.specs.declared.name.NameStart.{NameStart}
+use Rattle.naming.specs.declared.name.NameStart.the-variants.{At, Other}
 
 -- A line, if it names a junction.
 pub record LineNames (line : List ℕ) : Type 0 where

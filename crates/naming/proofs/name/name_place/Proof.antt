@@ -3,10 +3,10 @@ use borrow.Author.Needs.{needs}
 use mathlib.Core.Path.{_≡_, sym, ap, _∙_}
 use denote.Ref.{now}
 use Rattle.townfile.specs.FirstFault.{accepted, firstFault}
-use Rattle.loading.specs.Scans.{readingOf}
-use Rattle.loading.proofs.Naming.{accepted-names, refused-nowhere, accepted-somewhere}
-use Rattle.loading.proofs.name.name_place.Statement.{statement}
-use Rattle.loading.proofs.name.name_place.Tie as tie
+use Rattle.scanning.specs.Scans.{readingOf}
+use Rattle.naming.proofs.Naming.{accepted-names, refused-nowhere, accepted-somewhere}
+use Rattle.naming.proofs.name.name_place.Statement.{statement}
+use Rattle.naming.proofs.name.name_place.Tie as tie
 
 returns : tie.Need-returns
 returns c = refused-nowhere _ _ (sym (ap readingOf (c .enum-told .given .1)) ∙ c .before .before .scan .ensures)

@@ -11,9 +11,9 @@ use Rattle.townfile.specs.Bytes.{lineFeed, pieces}
 use Rattle.townfile.specs.FirstFault.{atEnd, linesFrom, firstFault}
 use Rattle.reading.specs.LineSteps.{outcomeOf}
 use Rattle.reading.specs.Fields.{lineFrom}
-use Rattle.loading.proofs.Scanning.{text-too-long, scan-starts, scan-refused, scan-goes-on, scan-ends}
-use Rattle.loading.proofs.scan.scan.Statement.{statement}
-use Rattle.loading.proofs.scan.scan.Tie as tie
+use Rattle.scanning.proofs.Scanning.{text-too-long, scan-starts, scan-refused, scan-goes-on, scan-ends}
+use Rattle.scanning.proofs.scan.scan.Statement.{statement}
+use Rattle.scanning.proofs.scan.scan.Tie as tie
 
 abbrev Inv-loop : tie.InvT-loop
 Inv-loop text progress₀ at₀ line₀ progress at line = (linesFrom progress line (pieces lineFeed (drop at text)) ≡ firstFault text) × ((at ≤ length text) × (line ≤ at + 1))

@@ -8,9 +8,9 @@ use denote.Ref.{now}
 use Rattle.model.specs.Rules.{replied}
 use Rattle.reading.specs.Fields.{lineFrom}
 use Rattle.reading.specs.LineSteps.{step, outcomeOf, lineStep}
-use Rattle.loading.proofs.Scanning.{line-without-feed, line-too-long, line-of-bytes, line-faults, read-ends}
-use Rattle.loading.proofs.scan.next_line.Statement.{statement}
-use Rattle.loading.proofs.scan.next_line.Tie as tie
+use Rattle.scanning.proofs.Scanning.{line-without-feed, line-too-long, line-of-bytes, line-faults, read-ends}
+use Rattle.scanning.proofs.scan.next_line.Statement.{statement}
+use Rattle.scanning.proofs.scan.next_line.Tie as tie
 
 abbrev start : tie.After-known-told → tie.Start
 start c = c .before .before .before .before .before

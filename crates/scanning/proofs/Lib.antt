@@ -1,0 +1,2 @@
+pub mod RestLines
+pub mod Scanning

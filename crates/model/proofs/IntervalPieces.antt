@@ -47,6 +47,6 @@ module _ (fences : List ℕ) (kept : FencesKept fences) (at k : ℕ) (in-time : 
   unfolding speedAt
   interval-is-piece speeds = record {
     forward = end-no-earlier;
-    in-time = end-in-time;
+    in-time = omega (arith, end-in-time);
     steady = λ t from before. rw (same-interval t from before);
   }

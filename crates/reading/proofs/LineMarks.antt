@@ -17,7 +17,7 @@ use Rattle.reading.specs.Fields.{lineFrom, wordFrom, fieldAt, fieldsFrom
 use Rattle.reading.specs.LineSteps.{Step, step, numbersRead, ofNumbers, inTurnOnly, nameAt, withName, withJunction, ofComment, townStep, fencesStep, junctionStep, arcStep, commentStep, lineStep}
 use Rattle.reading.specs.declared.field.Field.{Field}
 use Rattle.reading.specs.declared.field.Field.the-variants as field
-use Rattle.reading.specs.declared.line.Numbers.the-variants.{Within, Outside, Malformed}
+use Rattle.reading.specs.declared.numbers.Numbers.the-variants.{Within, Outside, Malformed}
 use Rattle.reading.specs.declared.field.Rest.the-variants.{Good}
 use Rattle.reading.specs.declared.field.Rest.the-variants as rest
 use Rattle.reading.proofs.BehindMark.{BehindMark}

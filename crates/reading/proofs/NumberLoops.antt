@@ -12,7 +12,7 @@ use Rattle.townfile.specs.Bytes.{pieces, upTo}
 use Rattle.reading.specs.Fields.{lineFrom, fieldAt, numbersFrom}
 use Rattle.reading.specs.LineSteps.{numbersRead, fenceKeeps, fencesLeftKeep}
 use Rattle.reading.specs.declared.field.Field.the-variants as field
-use Rattle.reading.specs.declared.line.Numbers.the-variants.{Malformed}
+use Rattle.reading.specs.declared.numbers.Numbers.the-variants.{Malformed}
 use Rattle.reading.proofs.NumbersLeft.{field-read, numbers-go-on, numbers-malformed, numbers-not-ended, no-bytes}
 
 -- ---- Any test

@@ -18,7 +18,7 @@ use Rattle.townfile.proofs.Pieces.{pieces-next, pieces-behind}
 use Rattle.reading.specs.Fields.{lineFrom, wordFrom, fieldKeeps, fieldAt, fieldsFrom, numbersFrom, filledBy}
 use Rattle.reading.specs.LineSteps.{numbersRead}
 use Rattle.reading.specs.declared.field.Field.the-variants as field
-use Rattle.reading.specs.declared.line.Numbers.the-variants.{Within, Outside, Malformed}
+use Rattle.reading.specs.declared.numbers.Numbers.the-variants.{Within, Outside, Malformed}
 use Rattle.reading.proofs.LineFrom.{line-ends, line-feed-ends, line-goes-on, line-later, upTo-length, upTo-behind}
 
 -- ---- A field that is a number

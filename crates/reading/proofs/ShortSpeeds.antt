@@ -19,8 +19,8 @@ use Rattle.reading.specs.Fields.{wordFrom, fieldAt}
 use Rattle.reading.specs.LineSteps.{numbersRead}
 use Rattle.reading.specs.ShortSpeeds.{ReadTo, SpeedWord, ShortWord, ShortField, ShortRow}
 use Rattle.reading.specs.declared.field.Field.the-variants as field
-use Rattle.reading.specs.declared.line.speeds.ShortRead.{ShortRead}
-use Rattle.reading.specs.declared.line.speeds.ShortRead.the-variants.{To, Unsure}
+use Rattle.reading.specs.declared.speeds.ShortRead.{ShortRead}
+use Rattle.reading.specs.declared.speeds.ShortRead.the-variants.{To, Unsure}
 use Rattle.reading.proofs.LineFrom.{line-feed-ends, line-goes-on, word-ends, space-ends}
 use Rattle.reading.proofs.Digits.{digit-is, digit-bounds, digit-word}
 use Rattle.reading.proofs.NumbersLeft.{numbers-within}

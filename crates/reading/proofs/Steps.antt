@@ -19,8 +19,8 @@ use Rattle.reading.specs.declared.field.Field.{Field}
 use Rattle.reading.specs.declared.field.Field.the-variants as field
 use Rattle.reading.specs.declared.field.Rest.{Rest}
 use Rattle.reading.specs.declared.field.Rest.the-variants as rest
-use Rattle.reading.specs.declared.line.Numbers.{Numbers}
-use Rattle.reading.specs.declared.line.Numbers.the-variants.{Within, Outside, Malformed}
+use Rattle.reading.specs.declared.numbers.Numbers.{Numbers}
+use Rattle.reading.specs.declared.numbers.Numbers.the-variants.{Within, Outside, Malformed}
 use Rattle.reading.proofs.LineFrom.{space-ends, word-goes-on}
 use Rattle.reading.proofs.NumbersLeft.{field-read, numbers-go-on, number-goes, numbers-malformed}
 use Rattle.reading.proofs.NumberLoops.{numbers-same}

@@ -10,9 +10,9 @@ use Rattle.townfile.specs.Bytes.{space}
 use Rattle.townfile.specs.Numbers.{decimal, numberKeeps}
 use Rattle.reading.specs.Fields.{wordFrom}
 use Rattle.reading.specs.LineSteps.{numbersRead}
-use Rattle.reading.specs.declared.line.Numbers.the-variants.{Within}
-use Rattle.reading.specs.declared.line.speeds.ShortRead.{ShortRead}
-use Rattle.reading.specs.declared.line.speeds.ShortRead.the-variants.{To, Unsure}
+use Rattle.reading.specs.declared.numbers.Numbers.the-variants.{Within}
+use Rattle.reading.specs.declared.speeds.ShortRead.{ShortRead}
+use Rattle.reading.specs.declared.speeds.ShortRead.the-variants.{To, Unsure}
 
 -- What holds of the place that a reading comes to. Of one that cannot tell nothing is said.
 abbrev pub ReadTo : (ℕ → Type 0) → ShortRead → Type 0

@@ -1,28 +1,24 @@
 // One line of a town file: what it adds to the progress, or its first fault of 23 to 26. The line's length and its line feed are
 // the scan's.
-mod speeds;
-
 ghost use mathlib.Core.Path.{_≡_};
-ghost use mathlib.Core.Bool.{_&&_};
-ghost use mathlib.Core.List.{[], _∷_};
 ghost use Prim.Native.Nat.{_+_};
-ghost use Rattle.model.specs.Rules.{fencesKeep};
-ghost use Rattle.townfile.specs.Lines.{townKeeps, junctionKeeps, arcKeeps};
-ghost use Rattle.reading.specs.LineSteps.{fenceKeeps, arcFits, numbersRead, withinIf, nameAt, outcomeOf, townStep, fencesStep, junctionStep, arcStep, commentStep, lineStep};
+ghost use Rattle.townfile.specs.Lines.{arcKeeps};
+ghost use Rattle.reading.specs.LineSteps.{numbersRead, nameAt, outcomeOf, townStep, fencesStep, junctionStep, arcStep, commentStep, lineStep};
 use crate::field::Field;
 use crate::field::Rest;
-use crate::field::at_line_end;
 use crate::field::mark_at;
 use crate::field::name_rest;
 use crate::field::printable;
 use crate::field::read_field;
-use crate::line::speeds::speeds_read;
-use model::limit::MAX_ARCS;
-use model::limit::MAX_INTERVALS;
-use model::limit::MAX_JUNCTIONS;
-use model::limit::MAX_LENGTH;
+use crate::limits::arc_fits;
+use crate::limits::junction_keeps;
+use crate::limits::town_keeps;
+use crate::numbers::Numbers;
+use crate::numbers::fences_read;
+use crate::numbers::numbers_end;
+use crate::numbers::within_if;
+use crate::speeds::speeds_read;
 use model::refusal::Refusal;
-use model::tick::Tick;
 use townfile::mark::ARC;
 use townfile::mark::COMMENT;
 use townfile::mark::FENCES;
@@ -31,117 +27,9 @@ use townfile::mark::SPACE;
 use townfile::mark::TOWN;
 use townfile::progress::Progress;
 
-// The numbers that fill the rest of a line: as many as they should be, and within their limits or not.
-pub(crate) enum Numbers {
-    Within(usize),
-    Outside,
-    Malformed,
-}
-
 pub enum LineRead {
     Next { progress: Progress, end: usize },
     Fault(Refusal),
-}
-
-// ---- The numbers' limits
-
-// Both hold. As a function it keeps tests and flags free of branches.
-fn both(a: bool, b: bool) -> bool
-    ensures { λ r. ⌜ r ≡ (a && b) ⌝ }
-{
-    a && b
-}
-
-fn town_keeps(junctions: u32, intervals: u32) -> bool
-    ensures { λ r. ⌜ r ≡ townKeeps (junctions ∷ intervals ∷ []) ⌝ }
-{
-    both(
-        both(
-            both(0 < junctions, junctions <= MAX_JUNCTIONS as u32),
-            0 < intervals,
-        ),
-        intervals <= MAX_INTERVALS as u32,
-    )
-}
-
-// The first fence is 0; any other is above the one before it and below the day.
-fn fence_keeps(k: u32, before: u32, fence: u32) -> bool
-    ensures { λ r. ⌜ r ≡ fenceKeeps k before fence ⌝ }
-{
-    if k == 0 {
-        return fence == 0;
-    }
-    both(before < fence, fence < Tick::DAY)
-}
-
-fn junction_keeps(progress: Progress, junction: u32) -> bool
-    ensures { λ r. ⌜ r ≡ junctionKeeps progress junction ⌝ }
-{
-    both(junction < progress.junctions, progress.unnamed <= junction)
-}
-
-fn arc_fits(progress: Progress, tail: u32, head: u32, metres: u32) -> bool
-    ensures { λ r. ⌜ r ≡ arcFits progress tail head metres ⌝ }
-{
-    let junctions = progress.junctions;
-    both(
-        both(
-            both(both(tail < junctions, head < junctions), tail != head),
-            both(0 < metres, metres <= MAX_LENGTH),
-        ),
-        progress.arcs < MAX_ARCS as u32,
-    )
-}
-
-// ---- Numbers to the end of the line. The reading goes on after one outside its limits, since a field of the wrong form counts first.
-
-fn fences_read(text: &[u8], at: usize, count: u32) -> Numbers
-    ensures { λ r. ⌜ r ≡ numbersRead fencesKeep count (now (text .entry)) at ⌝ }
-{
-    let mut i = at;
-    let mut k = 0u32;
-    let mut before = 0u32;
-    let mut within = true;
-    while k < count {
-        let Field::Number { value, next } = read_field(text, i) else {
-            return Numbers::Malformed;
-        };
-        within = both(within, fence_keeps(k, before, value));
-        before = value;
-        i = next;
-        k += 1;
-    }
-    numbers_end(text, i, within)
-}
-
-// No number is left to come.
-fn numbers_end(text: &[u8], at: usize, within: bool) -> Numbers
-    ensures { λ r. ⌜ r ≡ numbersRead (λ numbers. within) 0 (now (text .entry)) at ⌝ }
-{
-    if !at_line_end(text, at) {
-        return Numbers::Malformed;
-    }
-    if within {
-        Numbers::Within(at)
-    } else {
-        Numbers::Outside
-    }
-}
-
-// A further test of numbers that are within their limits.
-fn within_if(numbers: Numbers, fits: bool) -> Numbers
-    ensures { λ r. ⌜ r ≡ withinIf numbers fits ⌝ }
-{
-    match numbers {
-        Numbers::Within(end) => {
-            if fits {
-                return Numbers::Within(end);
-            }
-            Numbers::Outside
-        }
-        Numbers::Outside => Numbers::Outside,
-        Numbers::Malformed => Numbers::Malformed,
-    }
 }
 
 // ---- A line of each kind, from the place behind its mark

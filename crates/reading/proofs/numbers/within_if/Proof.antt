@@ -1,7 +1,7 @@
 -- `line::within_if`: case by case.
 use borrow.Author.Needs.{needs}
-use Rattle.reading.proofs.line.within_if.Statement.{statement}
-use Rattle.reading.proofs.line.within_if.Tie as tie
+use Rattle.reading.proofs.numbers.within_if.Statement.{statement}
+use Rattle.reading.proofs.numbers.within_if.Tie as tie
 
 returns : tie.Need-returns
 returns c = rw (c .before .before .numbers .given .1, c .if1 .taken)

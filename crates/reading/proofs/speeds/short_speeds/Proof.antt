@@ -5,8 +5,8 @@ use Prim.Native.Nat.{_+_, _-_, _*_, _≤_}
 use native.Mathlib.Omega.{arith}
 use Rattle.reading.specs.ShortSpeeds.{ShortField}
 use Rattle.reading.proofs.ShortSpeeds.{reached-at, RowLeft, row-begins, row-goes-on, row-ends}
-use Rattle.reading.proofs.line.speeds.short_speeds.Statement.{statement}
-use Rattle.reading.proofs.line.speeds.short_speeds.Tie as tie
+use Rattle.reading.proofs.speeds.short_speeds.Statement.{statement}
+use Rattle.reading.proofs.speeds.short_speeds.Tie as tie
 
 abbrev Inv-loop : tie.InvT-loop
 Inv-loop text at count i₀ k₀ i k = RowLeft text at count k i × (k ≤ count) × (i ≤ at + 4 * k)

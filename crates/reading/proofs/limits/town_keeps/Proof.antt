@@ -1,7 +1,7 @@
 -- `line::town_keeps`: each flag is the definition's test.
 use borrow.Author.Needs.{needs}
-use Rattle.reading.proofs.line.town_keeps.Statement.{statement}
-use Rattle.reading.proofs.line.town_keeps.Tie as tie
+use Rattle.reading.proofs.limits.town_keeps.Statement.{statement}
+use Rattle.reading.proofs.limits.town_keeps.Tie as tie
 
 returns : tie.Need-returns
 returns c = cc

@@ -3,8 +3,8 @@ use borrow.Author.Needs.{needs}
 use mathlib.Core.Path.{sym, _∙_}
 use borrow.Author.Tests.{not-true, not-false}
 use Rattle.reading.proofs.NumbersLeft.{numbers-not-ended, numbers-within, numbers-outside}
-use Rattle.reading.proofs.line.numbers_end.Statement.{statement}
-use Rattle.reading.proofs.line.numbers_end.Tie as tie
+use Rattle.reading.proofs.numbers.numbers_end.Statement.{statement}
+use Rattle.reading.proofs.numbers.numbers_end.Tie as tie
 
 returns : tie.Need-returns
 returns c = numbers-not-ended _ _ _ (sym (c .before .at-line-end .ensures) ∙ not-true _ (c .if1 .taken))

@@ -1,8 +1,8 @@
 -- `line::speeds::is_digit`: by the bounds of the digits.
 use mathlib.Core.Path.{sym}
 use Rattle.reading.proofs.Digits.{digit-is, below-digits, above-digits}
-use Rattle.reading.proofs.line.speeds.is_digit.Statement.{statement}
-use Rattle.reading.proofs.line.speeds.is_digit.Tie as tie
+use Rattle.reading.proofs.speeds.is_digit.Statement.{statement}
+use Rattle.reading.proofs.speeds.is_digit.Tie as tie
 
 returns : tie.Need-returns
 returns c = sym (digit-is _ (c .before .if1 .left) (c .if2 .taken))

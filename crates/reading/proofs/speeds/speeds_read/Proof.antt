@@ -2,8 +2,8 @@
 use borrow.Author.Needs.{needs}
 use Rattle.reading.specs.ShortSpeeds.{ShortRow}
 use Rattle.reading.proofs.ShortSpeeds.{reached-at}
-use Rattle.reading.proofs.line.speeds.speeds_read.Statement.{statement}
-use Rattle.reading.proofs.line.speeds.speeds_read.Tie as tie
+use Rattle.reading.proofs.speeds.speeds_read.Statement.{statement}
+use Rattle.reading.proofs.speeds.speeds_read.Tie as tie
 
 returns : tie.Need-returns
 returns c = reached-at (ShortRow _ _ _) (c .before .end .given .1) (c .before .before .before .short-speeds .ensures)

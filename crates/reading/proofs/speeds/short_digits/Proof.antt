@@ -10,8 +10,8 @@ use denote.Ref.{now}
 use Rattle.townfile.specs.Bytes.{digit}
 use Rattle.reading.proofs.Digits.{digit-is}
 use Rattle.reading.proofs.ShortSpeeds.{one-digit-read, two-digits-read, three-are-digits, three-digits-read}
-use Rattle.reading.proofs.line.speeds.short_digits.Statement.{statement}
-use Rattle.reading.proofs.line.speeds.short_digits.Tie as tie
+use Rattle.reading.proofs.speeds.short_digits.Statement.{statement}
+use Rattle.reading.proofs.speeds.short_digits.Tie as tie
 
 returns : tie.Need-returns
 returns c =

@@ -3,10 +3,10 @@ use borrow.Author.Needs.{needs}
 use mathlib.Core.Path.{ap}
 use native.Mathlib.Omega.{arith}
 use Rattle.townfile.specs.Bytes.{digit}
-use Rattle.reading.specs.declared.line.speeds.ShortRead.the-variants.{To}
+use Rattle.reading.specs.declared.speeds.ShortRead.the-variants.{To}
 use Rattle.reading.proofs.ShortSpeeds.{one-digit-read, behind-gap}
-use Rattle.reading.proofs.line.speeds.short_speed.Statement.{statement}
-use Rattle.reading.proofs.line.speeds.short_speed.Tie as tie
+use Rattle.reading.proofs.speeds.short_speed.Statement.{statement}
+use Rattle.reading.proofs.speeds.short_speed.Tie as tie
 
 returns-2 : tie.Need-returns-2
 returns-2 c = behind-gap _ _ (c .before .before .if1 .left) (To _) (one-digit-read _ _ (omega arith) (ap digit (c .match .keys1)))

@@ -2,8 +2,8 @@
 use borrow.Author.Needs.{needs}
 use mathlib.Core.Path.{_∙_}
 use borrow.Author.Tests.{eq-eqb, ne-eqb}
-use Rattle.reading.proofs.line.fence_keeps.Statement.{statement}
-use Rattle.reading.proofs.line.fence_keeps.Tie as tie
+use Rattle.reading.proofs.limits.fence_keeps.Statement.{statement}
+use Rattle.reading.proofs.limits.fence_keeps.Tie as tie
 
 returns : tie.Need-returns
 returns c = rw (eq-eqb (c .before .args .k) 0 (c .if1 .taken))

@@ -6,8 +6,8 @@ use native.Mathlib.Omega.{arith}
 use Rattle.model.specs.Rules.{every, speedKeeps}
 use Rattle.reading.specs.LineSteps.{numbersRead}
 use Rattle.reading.proofs.NumberLoops.{all-left, left-malformed, left-goes-on, none-left, speedsTest, speeds-test-goes, speeds-test-ends}
-use Rattle.reading.proofs.line.speeds.long_speeds.Statement.{statement}
-use Rattle.reading.proofs.line.speeds.long_speeds.Tie as tie
+use Rattle.reading.proofs.speeds.long_speeds.Statement.{statement}
+use Rattle.reading.proofs.speeds.long_speeds.Tie as tie
 
 abbrev Inv-loop : tie.InvT-loop
 Inv-loop text at count i₀ k₀ within₀ i k within = (numbersRead (speedsTest within) (count - k) text i ≡ numbersRead (every speedKeeps) count text at) × (k ≤ count)

@@ -1,7 +1,7 @@
 -- `line::arc_fits`: each flag is the definition's test.
 use borrow.Author.Needs.{needs}
-use Rattle.reading.proofs.line.arc_fits.Statement.{statement}
-use Rattle.reading.proofs.line.arc_fits.Tie as tie
+use Rattle.reading.proofs.limits.arc_fits.Statement.{statement}
+use Rattle.reading.proofs.limits.arc_fits.Tie as tie
 
 returns : tie.Need-returns
 returns c = cc

@@ -6,8 +6,8 @@ use native.Mathlib.Omega.{arith}
 use Rattle.model.specs.Rules.{fencesKeep}
 use Rattle.reading.specs.LineSteps.{numbersRead}
 use Rattle.reading.proofs.NumberLoops.{all-left, left-malformed, left-goes-on, none-left, fencesTest, fences-test-goes, fences-test-ends}
-use Rattle.reading.proofs.line.fences_read.Statement.{statement}
-use Rattle.reading.proofs.line.fences_read.Tie as tie
+use Rattle.reading.proofs.numbers.fences_read.Statement.{statement}
+use Rattle.reading.proofs.numbers.fences_read.Tie as tie
 
 abbrev Inv-loop : tie.InvT-loop
 Inv-loop text at count i₀ k₀ before₀ within₀ i k before within = (numbersRead (fencesTest within k before) (count - k) text i ≡ numbersRead fencesKeep count text at) × (k ≤ count)

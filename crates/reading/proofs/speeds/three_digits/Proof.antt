@@ -3,8 +3,8 @@ use borrow.Author.Needs.{needs}
 use native.Mathlib.Omega.{arith}
 use Rattle.townfile.specs.Numbers.{decimalFrom}
 use Rattle.townfile.proofs.Between.{every-between}
-use Rattle.reading.proofs.line.speeds.three_digits.Statement.{statement}
-use Rattle.reading.proofs.line.speeds.three_digits.Tie as tie
+use Rattle.reading.proofs.speeds.three_digits.Statement.{statement}
+use Rattle.reading.proofs.speeds.three_digits.Tie as tie
 
 sub-result : tie.Need-sub-result
 sub-result c = every-between 48 57 _ (c .pre) 0 (omega arith) .0

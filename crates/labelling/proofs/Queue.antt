@@ -13,8 +13,8 @@ use lib.Seq.{getD-set-same, getD-set-other}
 use borrow.Author.Tests.{lt-ltb}
 use Rattle.model.specs.Ticks.{last, never}
 use Rattle.model.proofs.Tests.{ltb-cases}
-use Rattle.labelling.specs.Labelling.{lowered, Rekeyed}
-use Rattle.labelling.specs.Tournament.{leaf, Tournament, Least, Entered, keyOf, junctionOf}
+use Rattle.labelling.specs.code.Labelling.{lowered, Rekeyed}
+use Rattle.labelling.specs.code.Tournament.{leaf, Tournament, Least, Entered, keyOf, junctionOf}
 use Rattle.labelling.proofs.Matches.{equal-keys}
 use Rattle.labelling.proofs.Settling.{by-flag}
 

@@ -21,9 +21,9 @@ use Rattle.model.proofs.Networks.{accepted-sound}
 use Rattle.model.proofs.Passed.{passed-monotone}
 use Rattle.model.proofs.Tests.{ltb-cases, eqb-cases}
 use Rattle.driving.specs.ArcKept.{ArcKept}
-use Rattle.labelling.specs.Labelling.{arcFrom, Linked, lowered, taken, Rekeyed, Offerable}
+use Rattle.labelling.specs.code.Labelling.{arcFrom, Linked, lowered, taken, Rekeyed, Offerable}
 use Rattle.labelling.specs.Labels.{Labelable}
-use Rattle.labelling.specs.Tournament.{Least, Entered, keyOf}
+use Rattle.labelling.specs.code.Tournament.{Least, Entered, keyOf}
 use Rattle.checking.proofs.Flags.{true-not-false}
 use Rattle.labelling.proofs.Linking.{arc-from, arc-from-least}
 use Rattle.labelling.proofs.Queue.{Queued, Nearest, none-waits, queued-starts, queued-settles, queued-lowers, queued-offered}

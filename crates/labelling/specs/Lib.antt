@@ -1,4 +1,3 @@
+pub mod code
 pub mod Demand3
-pub mod Labelling
 pub mod Labels
-pub mod Tournament

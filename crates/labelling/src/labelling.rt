@@ -8,7 +8,7 @@ ghost use Rattle.model.specs.Limits.{maxArcs, maxJunctions};
 ghost use Rattle.model.specs.Network.{netOf};
 ghost use Rattle.model.specs.Lent.{lentNetwork, networkIn};
 ghost use Rattle.labelling.specs.Labels.{Labelable};
-ghost use Rattle.labelling.specs.Labelling.{Linked, Offerable, Rekeyed, arrivalOn, labelOf, lowered, taken};
+ghost use Rattle.labelling.specs.code.Labelling.{Linked, Offerable, Rekeyed, arrivalOn, labelOf, lowered, taken};
 use crate::tournament::NODES;
 use crate::tournament::enter;
 use crate::tournament::junction_of;

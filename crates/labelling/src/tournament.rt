@@ -4,7 +4,7 @@ ghost use mathlib.Core.Path.{_≡_};
 ghost use Prim.Native.Nat.{_<_, _≤_, min};
 ghost use Rattle.model.specs.Limits.{maxJunctions};
 ghost use Rattle.model.specs.Ticks.{last};
-ghost use Rattle.labelling.specs.Tournament.{Tournament, Entered, Least, keyOf, junctionOf};
+ghost use Rattle.labelling.specs.code.Tournament.{Tournament, Entered, Least, keyOf, junctionOf};
 
 // The least power of two that is no less than the number of junctions, so that all leaves lie equally deep.
 const LEAVES: usize = 256;

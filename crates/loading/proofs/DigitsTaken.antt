@@ -14,7 +14,7 @@ use Rattle.townfile.specs.Numbers.{decimalFrom, decimal}
 use Rattle.townfile.proofs.Between.{every-between}
 use Rattle.townfile.proofs.NumberForm.{keeps-number}
 use Rattle.reading.specs.Fields.{lineFrom, wordFrom, fieldKeeps}
-use Rattle.loading.specs.Filling.{EndsInside, takenAt}
+use Rattle.loading.specs.code.Filling.{EndsInside, takenAt}
 use Rattle.reading.proofs.LineFrom.{word-at, upTo-length}
 use Rattle.reading.proofs.Digits.{decimal-grows, all-digits, number-below, value-left, end-left, digits-left}
 use Rattle.reading.proofs.NumbersLeft.{kept-field, gap-line, no-bytes}

@@ -17,7 +17,7 @@ use Rattle.townfile.specs.Lines.{markFN, markAR, markOf, markAlone, fieldsOf, n
 use Rattle.townfile.specs.Tables.{arcOf, townOf}
 use Rattle.townfile.specs.Load.{Tables, tables}
 use Rattle.reading.specs.Fields.{lineFrom, numbersFrom}
-use Rattle.loading.specs.Filling.{EndsInside, NumbersFill, ArcFills, FencesLine, ArcLine, Fillable}
+use Rattle.loading.specs.code.Filling.{EndsInside, NumbersFill, ArcFills, FencesLine, ArcLine, Fillable}
 use Rattle.reading.proofs.BehindMark.{BehindMark}
 use Rattle.loading.proofs.MarkedFrom.{markedFrom, none-left, this-marked, this-unmarked}
 

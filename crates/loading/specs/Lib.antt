@@ -1,2 +1,2 @@
-pub mod Filling
+pub mod code
 pub mod Loaded

@@ -8,7 +8,7 @@ ghost use Rattle.model.specs.Rules.{every, speedKeeps, written};
 ghost use Rattle.townfile.specs.Grammar.{networkOf};
 ghost use Rattle.townfile.specs.Tables.{townOf};
 ghost use Rattle.reading.specs.Fields.{lineFrom, fieldKeeps, numbersFrom};
-ghost use Rattle.loading.specs.Filling.{EndsInside, takenAt, NumbersFill, ArcFills, Fillable};
+ghost use Rattle.loading.specs.code.Filling.{EndsInside, takenAt, NumbersFill, ArcFills, Fillable};
 use reading::field::line_end;
 use reading::field::mark_at;
 use townfile::mark::ARC;

@@ -21,7 +21,7 @@ use Rattle.townfile.specs.Name.{part, namesIt, placeAmong, namePlace}
 use Rattle.townfile.specs.declared.progress.Progress.{Progress}
 use Rattle.townfile.proofs.NameForm.{keeps-name}
 use Rattle.reading.specs.Fields.{lineFrom, wordFrom, fieldAt}
-use Rattle.naming.specs.Naming.{LineNames, nameStart}
+use Rattle.naming.specs.code.Naming.{LineNames, nameStart}
 use Rattle.reading.specs.declared.field.Field.the-variants as field
 use Rattle.naming.specs.declared.name.NameStart.the-variants.{At, Other}
 use Rattle.reading.proofs.LineFrom.{line-later, upTo-behind}

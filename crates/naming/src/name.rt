@@ -4,7 +4,7 @@ ghost use Rattle.townfile.specs.Bytes.{lineFeed, pieces};
 ghost use Rattle.townfile.specs.Grammar.{Each};
 ghost use Rattle.townfile.specs.Name.{nameOf, placeAmong, namePlace};
 ghost use Rattle.reading.specs.Fields.{lineFrom};
-ghost use Rattle.naming.specs.Naming.{LineNames, nameStart};
+ghost use Rattle.naming.specs.code.Naming.{LineNames, nameStart};
 use reading::field::Field;
 use reading::field::line_end;
 use reading::field::mark_at;

@@ -17,7 +17,7 @@ use Rattle.townfile.proofs.Between.{every-between}
 use Rattle.townfile.proofs.NumberForm.{number-keeps}
 use Rattle.reading.specs.Fields.{wordFrom, fieldAt}
 use Rattle.reading.specs.LineSteps.{numbersRead}
-use Rattle.reading.specs.ShortSpeeds.{ReadTo, SpeedWord, ShortWord, ShortField, ShortRow}
+use Rattle.reading.specs.code.ShortSpeeds.{ReadTo, SpeedWord, ShortWord, ShortField, ShortRow}
 use Rattle.reading.specs.declared.field.Field.the-variants as field
 use Rattle.reading.specs.declared.speeds.ShortRead.{ShortRead}
 use Rattle.reading.specs.declared.speeds.ShortRead.the-variants.{To, Unsure}

@@ -1,3 +1,3 @@
+pub mod code
 pub mod Fields
 pub mod LineSteps
-pub mod ShortSpeeds

@@ -10,7 +10,7 @@ ghost use Rattle.model.specs.Rules.{every, speedKeeps};
 ghost use Rattle.townfile.specs.Bytes.{digit};
 ghost use Rattle.townfile.specs.Numbers.{decimal};
 ghost use Rattle.reading.specs.LineSteps.{numbersRead};
-ghost use Rattle.reading.specs.ShortSpeeds.{ReadTo, ShortWord, ShortField, ShortRow};
+ghost use Rattle.reading.specs.code.ShortSpeeds.{ReadTo, ShortWord, ShortField, ShortRow};
 use crate::field::Field;
 use crate::field::read_field;
 use crate::limits::both;

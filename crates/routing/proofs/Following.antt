@@ -10,7 +10,7 @@ use lib.ListN.{length, getD, set, take, drop, take-append-drop, length-set}
 use lib.Seq.{take-suc, set-at, length-take-le}
 use Rattle.model.specs.Labels.{noArc}
 use Rattle.model.specs.Routes.{arcsBack}
-use Rattle.routing.specs.Following.{backFrom, Leads, here, back}
+use Rattle.routing.specs.code.Following.{backFrom, Leads, here, back}
 use Rattle.model.specs.Rules.{written}
 
 -- No more arcs are found than are allowed.

@@ -23,7 +23,7 @@ use Rattle.checking.specs.Question.{questionRules, questionCheck, Taken}
 use Rattle.checking.proofs.QuestionRules.{kept-taken}
 use Rattle.labelling.specs.Labels.{labelsAnswer, labelsAfter, predecessorsAfter}
 use Rattle.model.proofs.Entries.{getD-inside}
-use Rattle.routing.specs.Following.{backFrom, Leads, Reached, Follows, no-junction, unreached, too-short, found}
+use Rattle.routing.specs.code.Following.{backFrom, Leads, Reached, Follows, no-junction, unreached, too-short, found}
 use Rattle.routing.specs.Route.{outcomeOf, arrivalOf, routeAnswer, routeArrival, arcsAfter}
 use Rattle.routing.specs.declared.route.Routed.{Routed}
 use Rattle.routing.proofs.RouteRules.{route, own, own-decides, replies}

@@ -1,2 +1,2 @@
-pub mod Following
+pub mod code
 pub mod Route

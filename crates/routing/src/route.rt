@@ -6,7 +6,7 @@ ghost use mathlib.Core.List.{reverse};
 ghost use Rattle.model.specs.Limits.{maxJunctions};
 ghost use Rattle.model.specs.Rules.{written};
 ghost use Rattle.model.specs.Lent.{lentNetwork};
-ghost use Rattle.routing.specs.Following.{backFrom, Leads, Reached, Follows};
+ghost use Rattle.routing.specs.code.Following.{backFrom, Leads, Reached, Follows};
 ghost use Rattle.routing.specs.Route.{outcomeOf, arrivalOf, routeAnswer, routeArrival, arcsAfter};
 use labelling::labels::Labelled;
 use labelling::labels::labels;

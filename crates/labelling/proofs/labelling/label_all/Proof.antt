@@ -15,7 +15,7 @@ use Rattle.model.specs.Labels.{noArc}
 use Rattle.model.specs.Network.{network, speedOn, driveOf}
 use Rattle.model.proofs.IntervalPieces.{some-passed}
 use Rattle.model.proofs.Passed.{passed-drop}
-use Rattle.labelling.specs.Labelling.{Linked}
+use Rattle.labelling.specs.code.Labelling.{Linked}
 use Rattle.labelling.proofs.Matches.{equal-keys}
 use Rattle.labelling.proofs.Queue.{Nearest, least-is-nearest}
 use Rattle.labelling.proofs.Turns.{waiting, waiting-falls, Round, round-starts, round-ends, still-reached, Turn, turn-starts, turn-offerable, turn-skips, turn-offers, next-higher, turn-ends}

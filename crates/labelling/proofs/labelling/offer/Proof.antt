@@ -9,7 +9,7 @@ use native.Mathlib.Omega.{arith}
 use denote.Ref.{now}
 use Rattle.model.specs.Ticks.{last, never, tick?, arrivedAt}
 use Rattle.model.proofs.Arrival.{arrival-by-last}
-use Rattle.labelling.specs.Labelling.{arrivalOn, labelOf}
+use Rattle.labelling.specs.code.Labelling.{arrivalOn, labelOf}
 use Rattle.labelling.proofs.Offered.{label-of-tick, leaves-lower, leaves-unreached, leaves-tie, leaves-tie-kept, leaves-later}
 use Rattle.labelling.proofs.labelling.offer.Statement.{statement}
 use Rattle.labelling.proofs.labelling.offer.Tie as tie

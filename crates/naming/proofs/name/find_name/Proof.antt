@@ -5,7 +5,7 @@ use mathlib.Core.Path.{_≡_, sym, _∙_}
 use native.Mathlib.Omega.{arith}
 use lib.ListN.{length}
 use denote.Ref.{now}
-use Rattle.naming.specs.Naming.{nameStart}
+use Rattle.naming.specs.code.Naming.{nameStart}
 use Rattle.naming.specs.declared.name.NameStart.the-variants.{At}
 use Rattle.reading.proofs.LineFrom.{line-inside}
 use Rattle.naming.proofs.Naming.{NamesLeft, all-left, none-left, line-named, line-passed, starts-inside, name-found}

@@ -3,7 +3,7 @@
 use borrow.Author.Needs.{needs}
 use Prim.Native.Nat.{_+_, _-_, _*_, _≤_}
 use native.Mathlib.Omega.{arith}
-use Rattle.reading.specs.ShortSpeeds.{ShortField}
+use Rattle.reading.specs.code.ShortSpeeds.{ShortField}
 use Rattle.reading.proofs.ShortSpeeds.{reached-at, RowLeft, row-begins, row-goes-on, row-ends}
 use Rattle.reading.proofs.speeds.short_speeds.Statement.{statement}
 use Rattle.reading.proofs.speeds.short_speeds.Tie as tie

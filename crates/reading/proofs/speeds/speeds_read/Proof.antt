@@ -1,6 +1,6 @@
 -- `line::speeds::speeds_read`: what the short reading tells is what the long one would.
 use borrow.Author.Needs.{needs}
-use Rattle.reading.specs.ShortSpeeds.{ShortRow}
+use Rattle.reading.specs.code.ShortSpeeds.{ShortRow}
 use Rattle.reading.proofs.ShortSpeeds.{reached-at}
 use Rattle.reading.proofs.speeds.speeds_read.Statement.{statement}
 use Rattle.reading.proofs.speeds.speeds_read.Tie as tie

@@ -4,7 +4,7 @@ use native.Mathlib.Omega.{arith}
 use lib.ListN.{length}
 use mir.Facts.{fits-widen}
 use denote.Ref.{now}
-use Rattle.routing.specs.Following.{backFrom}
+use Rattle.routing.specs.code.Following.{backFrom}
 use Rattle.routing.proofs.Following.{way-at-most, Counting, counting-starts, counting-step, counting-more, counting-goes-on, counting-ends}
 use Rattle.routing.proofs.route.count_arcs.Statement.{statement}
 use Rattle.routing.proofs.route.count_arcs.Tie as tie

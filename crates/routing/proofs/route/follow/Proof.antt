@@ -4,7 +4,7 @@ use Prim.Native.Nat.{ℕ}
 use native.Mathlib.Omega.{arith}
 use mathlib.Core.List.{List}
 use denote.Ref.{now}
-use Rattle.routing.specs.Following.{backFrom, Leads, Reached, no-junction, unreached, too-short, found}
+use Rattle.routing.specs.code.Following.{backFrom, Leads, Reached, no-junction, unreached, too-short, found}
 use Rattle.routing.proofs.Following.{way-at-most}
 use Rattle.routing.proofs.route.follow.Statement.{statement}
 use Rattle.routing.proofs.route.follow.Tie as tie

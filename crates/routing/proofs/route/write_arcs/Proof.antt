@@ -6,7 +6,7 @@ use native.Mathlib.Omega.{arith}
 use lib.ListN.{length-reverse}
 use mir.Facts.{fits-widen}
 use denote.Ref.{now}
-use Rattle.routing.specs.Following.{backFrom}
+use Rattle.routing.specs.code.Following.{backFrom}
 use Rattle.routing.proofs.Following.{Writing, writing-starts, writing-step, writing-goes-on, writing-ends}
 use Rattle.routing.proofs.route.write_arcs.Statement.{statement}
 use Rattle.routing.proofs.route.write_arcs.Tie as tie

@@ -15,7 +15,7 @@ use Rattle.model.specs.Network.{Network, Accepted, netOf}
 use Rattle.model.specs.NetworkRules.{networkRules, networkCheck}
 use Rattle.model.specs.Walks.{Net, Arrives, start, along}
 use Rattle.model.specs.Demands.{label}
-use Rattle.model.specs.Refusals.{refusalBase}
+use Rattle.refusals.specs.Refusals.{refusalBase}
 use Rattle.model.specs.Rules.{Outcome, refused, replied, Rule, _if_, AllKept}
 use Rattle.model.proofs.Demands.{demand-2}
 use Rattle.model.proofs.NetworkRules.{accepts-when-kept}

@@ -4,7 +4,7 @@ use mathlib.Core.Path.{_≡_}
 use mathlib.Core.List.{List}
 use mathlib.Core.Option.{Option, some}
 use Rattle.model.specs.Network.{Network}
-use Rattle.model.specs.Refusals.{refusalBase}
+use Rattle.refusals.specs.Refusals.{refusalBase}
 use Rattle.model.specs.Rules.{Outcome, refused, replied}
 use Rattle.routing.specs.Route.{routeAnswer, routeArrival}
 use Rattle.townfile.specs.FirstFault.{Reading, refusedAt, accepted}

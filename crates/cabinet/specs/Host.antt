@@ -11,7 +11,7 @@ use Rattle.model.specs.Ticks.{day}
 use Rattle.model.specs.Network.{netOf}
 use Rattle.model.specs.Walks.{Net, Arrives, ArrivesWaiting}
 use Rattle.model.specs.Demands.{label}
-use Rattle.model.specs.Refusals.{refusalBase}
+use Rattle.refusals.specs.Refusals.{refusalBase}
 use Rattle.model.specs.Rules.{Outcome, refused, replied}
 use Rattle.routing.specs.Route.{routeAnswer}
 use Rattle.townfile.specs.FirstFault.{Reading, refusedAt, accepted}

@@ -1,7 +1,7 @@
 // Host question: the destination's label in the town that a text describes, or a refusal's code.
 ghost use mathlib.Core.Path.{_≡_};
 ghost use Prim.Native.Nat.{_+_};
-ghost use Rattle.model.specs.Refusals.{refusalBase};
+ghost use Rattle.refusals.specs.Refusals.{refusalBase};
 ghost use Rattle.townfile.specs.Load.{counts, LongEnough, networkAt};
 ghost use Rattle.townfile.specs.Lent.{lentTables, tablesIn};
 ghost use Rattle.loading.specs.Loaded.{readingOf};
@@ -12,8 +12,8 @@ use loading::load::load;
 use model::limit::MAX_ARCS;
 use model::limit::MAX_INTERVALS;
 use model::limit::MAX_JUNCTIONS;
-use model::refusal::Refusal;
 use model::tick::Tick;
+use refusals::refusal::Refusal;
 use routing::route::Routed;
 use routing::route::route;
 

@@ -1,5 +1,5 @@
 -- What Network check answers: the number of its refusal; "otherwise it replies that the network is accepted".
-use Rattle.model.specs.Refusals.{numberOf}
+use Rattle.refusals.specs.Refusals.{numberOf}
 use Rattle.model.specs.Rules.{Outcome, refused, replied}
 use Rattle.checking.specs.declared.network.NetworkCheck.{NetworkCheck}
 use Rattle.checking.specs.declared.network.NetworkCheck.the-variants.{Accepted, Refused}

@@ -11,7 +11,7 @@ use crate::rule::interval_count_keeps;
 use crate::rule::lengths_keep;
 use crate::rule::speeds_keep;
 use model::limit::MAX_ARCS;
-use model::refusal::Refusal;
+use refusals::refusal::Refusal;
 
 pub enum NetworkCheck {
     Accepted,

@@ -5,8 +5,8 @@ ghost use Rattle.checking.specs.NetworkCheck.{outcomeOf};
 ghost use Rattle.checking.specs.Question.{questionCheck};
 use crate::network::NetworkCheck;
 use crate::network::network_check;
-use model::refusal::Refusal;
 use model::tick::Tick;
+use refusals::refusal::Refusal;
 
 pub fn question_check(
     junctions: u32,

@@ -12,7 +12,7 @@ use Rattle.model.specs.Ticks.{last, tick?}
 use Rattle.model.specs.Limits.{maxIntervals, maxLength, maxSpeed}
 use Rattle.model.specs.Flow.{spansOf, arrival}
 use Rattle.model.specs.Intervals.{FencesKept, speedAt}
-use Rattle.model.specs.Refusals.{numberOf}
+use Rattle.refusals.specs.Refusals.{numberOf}
 use Rattle.model.specs.Rules.{Outcome, refused, replied, Rule, _if_, firstBroken, every, countKeeps, fencesKeep, lengthKeeps, speedKeeps}
 use Rattle.driving.specs.declared.arc.ArcArrival.{ArcArrival}
 use Rattle.driving.specs.declared.arc.ArcArrival.the-variants.{At, CannotBeDriven, Refused}

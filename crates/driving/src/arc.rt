@@ -7,9 +7,9 @@ use checking::rule::fences_keep;
 use checking::rule::interval_count_keeps;
 use checking::rule::length_keeps;
 use checking::rule::speeds_keep;
-use model::refusal::Refusal;
 use model::tick::Arrival;
 use model::tick::Tick;
+use refusals::refusal::Refusal;
 
 pub enum ArcArrival {
     At(Tick),

@@ -12,7 +12,7 @@ use Rattle.model.specs.Ticks.{never}
 use Rattle.model.specs.Network.{Network, netOf}
 use Rattle.model.specs.Labels.{labelsOf, predecessorsOf, Certified, Lowest}
 use Rattle.model.specs.Walks.{Earliest}
-use Rattle.model.specs.Refusals.{numberOf}
+use Rattle.refusals.specs.Refusals.{numberOf}
 use Rattle.model.specs.Rules.{Outcome, refused, replied, Rule, _if_, firstBroken, after}
 use Rattle.checking.specs.Question.{questionRules, Taken}
 use Rattle.labelling.specs.declared.labels.Labelled.{Labelled}

@@ -5,8 +5,8 @@ ghost use Rattle.labelling.specs.Labels.{outcomeOf, labelsAnswer, labels
 use crate::labelling::label_all;
 use checking::network::NetworkCheck;
 use checking::question::question_check;
-use model::refusal::Refusal;
 use model::tick::Tick;
+use refusals::refusal::Refusal;
 
 pub enum Labelled {
     Written,

@@ -1,5 +1,5 @@
 -- What Load answers: the refusal's number and line; "otherwise the junction, interval and arc counts".
-use Rattle.model.specs.Refusals.{numberOf}
+use Rattle.refusals.specs.Refusals.{numberOf}
 use Rattle.townfile.specs.FirstFault.{Reading, refusedAt, accepted}
 use Rattle.townfile.specs.Load.{Counts, counts}
 use Rattle.loading.specs.declared.load.Loaded.{Loaded}

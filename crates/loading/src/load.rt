@@ -6,7 +6,7 @@ ghost use Rattle.townfile.specs.Load.{lacksRoom, loadAnswer, tablesAfter};
 ghost use Rattle.townfile.specs.Lent.{lentTables};
 ghost use Rattle.loading.specs.Loaded.{readingOf};
 use crate::fill::fill;
-use model::refusal::Refusal;
+use refusals::refusal::Refusal;
 use scanning::scan::Scanned;
 use scanning::scan::scan;
 

@@ -14,7 +14,6 @@ pub mod Passed
 pub mod Pieces
 pub mod Predecessors
 pub mod Products
-pub mod Refusals
 pub mod Routes
 pub mod Rules
 pub mod Tests

@@ -6,7 +6,6 @@ pub mod Lent
 pub mod Limits
 pub mod Network
 pub mod NetworkRules
-pub mod Refusals
 pub mod Routes
 pub mod Rules
 pub mod Ticks

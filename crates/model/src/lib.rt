@@ -2,5 +2,4 @@
 // laws that hold of it, stand in specs/ and proofs/.
 pub mod label;
 pub mod limit;
-pub mod refusal;
 pub mod tick;

@@ -20,8 +20,8 @@ use loading::load::load;
 use model::limit::MAX_ARCS;
 use model::limit::MAX_INTERVALS;
 use model::limit::MAX_JUNCTIONS;
-use model::refusal::Refusal;
 use model::tick::Tick;
+use refusals::refusal::Refusal;
 use townfile::limit::MAX_TEXT;
 
 // Lends the first entries of both buffers to Labels, one for each junction.

@@ -2,13 +2,13 @@
 ghost use mathlib.Core.List.{[], _∷_};
 ghost use Prim.Native.Nat.{_+_, _≤_, _<_};
 ghost use lib.ListN.{length};
-ghost use Rattle.model.specs.Refusals.{numberOf};
+ghost use Rattle.refusals.specs.Refusals.{numberOf};
 ghost use Rattle.printing.specs.Digits.{digitsOf};
 ghost use Rattle.printing.specs.Answer.{numberUnless, junctionLine, refusalText};
 ghost use Rattle.printing.specs.Putting.{Put, Printed};
 use model::label::NO_ARC;
 use model::label::UNREACHED;
-use model::refusal::Refusal;
+use refusals::refusal::Refusal;
 use townfile::mark::LINE_FEED;
 use townfile::mark::SPACE;
 

@@ -6,7 +6,7 @@ use lib.Dec.{leb, ltb, eqb}
 use lib.ListN.{length, getD, drop}
 use Rattle.model.specs.Limits.{maxArcs}
 use Rattle.model.specs.Ticks.{day}
-use Rattle.model.specs.Refusals.{numberOf}
+use Rattle.refusals.specs.Refusals.{numberOf}
 use Rattle.model.specs.Rules.{Outcome, refused, replied, firstBroken, fencesKeep, riseFrom, lengthKeeps}
 use Rattle.townfile.specs.Bytes.{space}
 use Rattle.townfile.specs.Lines.{townKeeps, junctionKeeps, endsDiffer, arcKeeps, townRead, fencesRead, junctionRead, arcRead, lineRules, lineRead}

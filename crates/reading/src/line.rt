@@ -18,7 +18,7 @@ use crate::numbers::fences_read;
 use crate::numbers::numbers_end;
 use crate::numbers::within_if;
 use crate::speeds::speeds_read;
-use model::refusal::Refusal;
+use refusals::refusal::Refusal;
 use townfile::mark::ARC;
 use townfile::mark::COMMENT;
 use townfile::mark::FENCES;

@@ -13,7 +13,7 @@ use Rattle.model.specs.Ticks.{day, never}
 use Rattle.model.specs.Network.{Network, Accepted, netOf}
 use Rattle.model.specs.Demands.{label}
 use Rattle.model.specs.Routes.{routeOf, Driven}
-use Rattle.model.specs.Refusals.{numberOf}
+use Rattle.refusals.specs.Refusals.{numberOf}
 use Rattle.model.specs.Rules.{Outcome, refused, replied, Rule, _if_, firstBroken, after, written}
 use Rattle.checking.specs.Question.{questionRules, Taken}
 use Rattle.routing.specs.declared.route.Routed.{Routed}

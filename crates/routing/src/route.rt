@@ -13,8 +13,8 @@ use labelling::labels::labels;
 use model::label::NO_ARC;
 use model::label::UNREACHED;
 use model::limit::MAX_JUNCTIONS;
-use model::refusal::Refusal;
 use model::tick::Tick;
+use refusals::refusal::Refusal;
 
 pub enum Routed {
     // The number of arcs, and the destination's label.

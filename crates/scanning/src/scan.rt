@@ -2,14 +2,14 @@
 ghost use mathlib.Core.Path.{_≡_};
 ghost use Prim.Native.Nat.{_≤_};
 ghost use lib.ListN.{length};
-ghost use Rattle.model.specs.Refusals.{numberOf};
+ghost use Rattle.refusals.specs.Refusals.{numberOf};
 ghost use Rattle.townfile.specs.FirstFault.{firstFault};
 ghost use Rattle.reading.specs.LineSteps.{outcomeOf};
 ghost use Rattle.scanning.specs.Scans.{readingOf, faultOf, wholeLine};
-use model::refusal::Refusal;
 use reading::field::line_end;
 use reading::line::LineRead;
 use reading::line::read_line;
+use refusals::refusal::Refusal;
 use townfile::limit::MAX_LINE;
 use townfile::limit::MAX_TEXT;
 use townfile::progress::Progress;

@@ -6,7 +6,7 @@ use lib.ListN.{length, getD}
 use Rattle.model.specs.Routes.{arcsBack}
 use Rattle.model.specs.Rules.{written}
 use Rattle.model.specs.Ticks.{never}
-use Rattle.model.specs.declared.refusal.Refusal.the-variants.{Destination, Unreached, ArcListLength}
+use Rattle.refusals.specs.declared.refusal.Refusal.the-variants.{Destination, Unreached, ArcListLength}
 use Rattle.routing.specs.declared.route.Routed.{Routed}
 use Rattle.routing.specs.declared.route.Routed.the-variants.{Arcs, Refused}
 

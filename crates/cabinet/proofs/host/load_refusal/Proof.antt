@@ -2,7 +2,7 @@
 use borrow.Author.Needs.{needs}
 use Prim.Native.Nat.{_+_}
 use mathlib.Core.Path.{sym, ap, _∙_}
-use Rattle.model.specs.Refusals.{refusalBase}
+use Rattle.refusals.specs.Refusals.{refusalBase}
 use Rattle.loading.specs.Loaded.{readingOf}
 use Rattle.cabinet.specs.Host.{loadNumber}
 use Rattle.cabinet.proofs.host.load_refusal.Statement.{statement}

@@ -6,7 +6,7 @@ use mathlib.Core.Path.{_≡_, sym, ap, _∙_}
 use mathlib.Core.List.{List}
 use native.Mathlib.Omega.{arith}
 use denote.Ref.{now}
-use Rattle.model.proofs.Refusals.{number-fits}
+use Rattle.refusals.proofs.Refusals.{number-fits}
 use Rattle.loading.specs.Loaded.{readingOf}
 use Rattle.townfile.specs.FirstFault.{accepted}
 use Rattle.townfile.specs.Grammar.{Bytes}

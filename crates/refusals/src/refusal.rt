@@ -1,7 +1,7 @@
 // Every refusal of the operations, by name, its number, and its code for a caller from C.
 ghost use mathlib.Core.Path.{_≡_};
 ghost use Prim.Native.Nat.{_+_};
-ghost use Rattle.model.specs.Refusals.{numberOf, refusalBase};
+ghost use Rattle.refusals.specs.Refusals.{numberOf, refusalBase};
 
 pub enum Refusal {
     // The network's rules.

@@ -1,9 +1,9 @@
 -- `Refusal::number` is `numberOf`: each arm knows the variant that it matched, and the two say the same of it.
 use mathlib.Core.Path.{sym, ap}
 use borrow.Author.Needs.{needs}
-use Rattle.model.specs.Refusals.{numberOf}
-use Rattle.model.proofs.refusal.Refusal.number.Statement.{statement}
-use Rattle.model.proofs.refusal.Refusal.number.Tie as tie
+use Rattle.refusals.specs.Refusals.{numberOf}
+use Rattle.refusals.proofs.refusal.Refusal.number.Statement.{statement}
+use Rattle.refusals.proofs.refusal.Refusal.number.Tie as tie
 
 pub number-spec : {M : Type 1} → statement M
 number-spec =

@@ -1,9 +1,9 @@
 -- `Refusal::code`: the sum fits, since no number is above 28.
 use borrow.Author.Needs.{needs}
 use native.Mathlib.Omega.{arith}
-use Rattle.model.proofs.Refusals.{number-fits}
-use Rattle.model.proofs.refusal.Refusal.code.Statement.{statement}
-use Rattle.model.proofs.refusal.Refusal.code.Tie as tie
+use Rattle.refusals.proofs.Refusals.{number-fits}
+use Rattle.refusals.proofs.refusal.Refusal.code.Statement.{statement}
+use Rattle.refusals.proofs.refusal.Refusal.code.Tie as tie
 
 add-result : tie.Need-add-result
 add-result c = omega (arith, c .number .ensures, number-fits (c .before .args .self))

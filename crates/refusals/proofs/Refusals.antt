@@ -1,11 +1,11 @@
--- No refusal's number is above 28, so its code fits 32 bits.
-use Prim.Native.Nat.{_≤_}
+-- Every refusal's number is below 100, so that its code fits 32 bits and it is printed in two digits at most.
+use Prim.Native.Nat.{_<_}
 use native.Mathlib.Omega.{arith}
-use Rattle.model.specs.Refusals.{numberOf}
-use Rattle.model.specs.declared.refusal.Refusal.{Refusal}
-use Rattle.model.specs.declared.refusal.Refusal.the-variants.{JunctionCount, IntervalCount, ArcCount, TableLength, Fence, ArcEnds, Length, Speed, Source, Departure, BufferLength, Destination, Unreached, ArcListLength, DepartureAfterLast, TextLength, NoLineFeed, LineLength, UnknownMark, MarkOutOfTurn, FieldForm, FieldValue, LineMissing, TableTooShort}
+use Rattle.refusals.specs.Refusals.{numberOf}
+use Rattle.refusals.specs.declared.refusal.Refusal.{Refusal}
+use Rattle.refusals.specs.declared.refusal.Refusal.the-variants.{JunctionCount, IntervalCount, ArcCount, TableLength, Fence, ArcEnds, Length, Speed, Source, Departure, BufferLength, Destination, Unreached, ArcListLength, DepartureAfterLast, TextLength, NoLineFeed, LineLength, UnknownMark, MarkOutOfTurn, FieldForm, FieldValue, LineMissing, TableTooShort}
 
-pub number-fits : (refusal : Refusal) → numberOf refusal ≤ 28
+pub number-fits : (refusal : Refusal) → numberOf refusal < 100
 number-fits JunctionCount = omega arith
 number-fits IntervalCount = omega arith
 number-fits ArcCount = omega arith

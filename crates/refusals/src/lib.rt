@@ -1,0 +1,2 @@
+// The refusals, and the number of each.
+pub mod refusal;

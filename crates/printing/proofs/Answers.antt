@@ -1,18 +1,21 @@
 -- The answer to an input, by its length and by what its first line asks; and its text.
 use Prim.Native.Nat.{ℕ, _≤_, _<_}
 use mathlib.Core.Path.{_≡_, refl, ap, _∙_}
-use mathlib.Core.Bool.{Bool, true, false, cond, _&&_}
+use mathlib.Core.Bool.{Bool, true, false, cond}
 use mathlib.Core.List.{List}
 use native.Mathlib.Omega.{arith}
-use lib.Dec.{ltb, eqb}
+use lib.Dec.{eqb}
 use lib.ListN.{length, drop}
-use borrow.Author.Tests.{lt-ltb, le-ltb, ltb-true}
+use borrow.Author.Tests.{lt-ltb, le-ltb}
 use Rattle.model.proofs.Rules.{true-both}
 use Rattle.townfile.specs.FirstFault.{refusedAt}
-use Rattle.townfile.specs.Lines.{markOf, markAlone, numbersKeep}
-use Rattle.printing.specs.Answer.{refusalText, textOf, townAnswer, answerTo, arrivalsText}
-use Rattle.printing.specs.Question.{markQU, firstLine, asks, sourceIn, departureIn, townStart, townText, askedBy}
-use Rattle.printing.specs.declared.question.Asked.the-variants.{Question, Malformed}
+use Rattle.asking.specs.Line.{numbersIn, ofForm, restStart}
+use Rattle.asking.proofs.Forms.{tested}
+use Rattle.putting.specs.Texts.{refusalText}
+use Rattle.printing.specs.Answer.{textOf, townAnswer, answerTo, arrivalsText}
+use Rattle.printing.specs.Question.{markQU, asks, sourceIn, departureIn, townText}
+use Rattle.printing.specs.code.Found.{questionIn}
+use Rattle.printing.specs.declared.question.Question.the-variants.{Asked, Malformed}
 
 -- ---- The answer
 
@@ -35,34 +38,31 @@ pub text-too-long : (input : List ℕ) → 65536 < length input → arrivalsText
 unfolding arrivalsText
 text-too-long input h = ap textOf (answer-too-long input h)
 
-pub text-not-asked : (input : List ℕ) → length input ≤ 65536 → askedBy input ≡ Malformed → arrivalsText input ≡ refusalText 25 0
-unfolding arrivalsText askedBy
+pub text-not-asked : (input : List ℕ) → length input ≤ 65536 → questionIn input ≡ Malformed → arrivalsText input ≡ refusalText 25 0
+unfolding arrivalsText questionIn
 text-not-asked input h e = go (asks input) refl e
   where
-    go : (test : Bool) → asks input ≡ test → cond test (Question (sourceIn input) (departureIn input) (townStart input)) Malformed ≡ Malformed → arrivalsText input ≡ refusalText 25 0
+    go : (test : Bool) → asks input ≡ test → cond test (Asked (sourceIn input) (departureIn input) (restStart input)) Malformed ≡ Malformed → arrivalsText input ≡ refusalText 25 0
     go true a e = absurd (let z : _≡_ {A = ℕ} 0 1 = cc in omega arith)
     go false a e = ap textOf (answer-not-asked input h a)
 
 -- The town file begins within the input.
-town-inside : (input : List ℕ) → asks input ≡ true → townStart input ≤ length input
+town-inside : (input : List ℕ) → asks input ≡ true → restStart input ≤ length input
 unfolding asks
-town-inside input a =
-    let marked = true-both (ltb (length (firstLine input)) (length input) && eqb (markOf (firstLine input)) markQU) (markAlone (firstLine input) && numbersKeep 2 (firstLine input)) a in
-    let ended = true-both (ltb (length (firstLine input)) (length input)) (eqb (markOf (firstLine input)) markQU) (marked .0) in
-    omega (arith, ltb-true (length (firstLine input)) (length input) (ended .0))
+town-inside input a = omega (arith, tested markQU input (true-both (ofForm markQU input) (eqb (length (numbersIn input)) 2) a .0) .ended)
 
 pub record TextAsked (input : List ℕ) (source departure town : ℕ) : Type 0 where
   pub inside : town ≤ length input
   pub answers : length input ≤ 65536 → arrivalsText input ≡ textOf (townAnswer (drop town input) source departure)
 
-pub text-asked : (input : List ℕ) {source departure town : ℕ} → askedBy input ≡ Question source departure town → TextAsked input source departure town
-unfolding arrivalsText askedBy
+pub text-asked : (input : List ℕ) {source departure town : ℕ} → questionIn input ≡ Asked source departure town → TextAsked input source departure town
+unfolding arrivalsText questionIn
 text-asked input {source} {departure} {town} e = go (asks input) refl e
   where
-    go : (test : Bool) → asks input ≡ test → cond test (Question (sourceIn input) (departureIn input) (townStart input)) Malformed ≡ Question source departure town → TextAsked input source departure town
+    go : (test : Bool) → asks input ≡ test → cond test (Asked (sourceIn input) (departureIn input) (restStart input)) Malformed ≡ Asked source departure town → TextAsked input source departure town
     go true a e =
         (let same-source : sourceIn input ≡ source = cc in
         let same-departure : departureIn input ≡ departure = cc in
-        let same-town : townStart input ≡ town = cc in
+        let same-town : restStart input ≡ town = cc in
         record { inside = omega (arith, town-inside input a, same-town); answers = λ h. ap textOf (answer-asked input h a) ∙ rw (same-source, same-departure, same-town) })
     go false a e = absurd (let z : _≡_ {A = ℕ} 0 1 = cc in omega arith)

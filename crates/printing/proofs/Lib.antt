@@ -1,11 +1,8 @@
 pub mod Answers
-pub mod Asking
-pub mod Digits
-pub mod Forms
 pub mod Lines
 pub mod Meaning
 pub mod Networks
-pub mod Putting
+pub mod Questions
 pub mod ReadBack
 pub mod Status
 pub mod Towns

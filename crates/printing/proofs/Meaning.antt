@@ -17,12 +17,14 @@ use Rattle.townfile.specs.FirstFault.{Reading, refusedAt, accepted, firstFault}
 use Rattle.townfile.specs.Grammar.{Bytes, Town, Describes, networkOf}
 use Rattle.townfile.specs.declared.progress.Progress.{Progress}
 use Rattle.townfile.proofs.Described.{faultless-described}
-use Rattle.printing.specs.Answer.{Arrivals, arrivalsIn, networkAnswer, townAnswer, answerTo, tableText, refusalText, textOf, arrivalsText}
+use Rattle.putting.specs.Texts.{refusalText}
+use Rattle.putting.proofs.Texts.{same-refusal}
+use Rattle.printing.specs.Answer.{Arrivals, arrivalsIn, networkAnswer, townAnswer, answerTo, tableText, textOf, arrivalsText}
 use Rattle.printing.specs.Meaning.{TableMeans, RefusalMeans, input-too-long, no-question, faulty-text, unknown-source, late-departure, PrintsTable, PrintsRefusal, TableOrRefusal}
 use Rattle.printing.specs.Question.{QuestionAndText, asks}
 use Rattle.printing.proofs.Answers.{answer-too-long, answer-not-asked, answer-asked}
-use Rattle.printing.proofs.Forms.{asks-when-of-form}
-use Rattle.printing.proofs.ReadBack.{same-arrivals, same-refusal, table-no-refusal}
+use Rattle.printing.proofs.Questions.{asks-when-of-form}
+use Rattle.printing.proofs.ReadBack.{same-arrivals, table-no-refusal}
 use Rattle.printing.proofs.Towns.{answer-faulty, answer-described}
 
 abbrev Means : List ℕ → Reading Arrivals → Type 0

@@ -21,10 +21,12 @@ use Rattle.model.proofs.Within.{within-length}
 use Rattle.townfile.specs.FirstFault.{refusedAt, accepted}
 use Rattle.checking.specs.Question.{startRules}
 use Rattle.labelling.specs.Labels.{bufferRules, labelsAnswer, labelsAfter, predecessorsAfter}
-use Rattle.printing.specs.Answer.{numberUnless, tableText, arrivalsIn, atLineZero, networkAnswer}
-use Rattle.printing.specs.Putting.{Printed, TableFits}
-use Rattle.printing.proofs.Digits.{digits-short}
-use Rattle.printing.proofs.Lines.{dash, no-dash}
+use Rattle.putting.specs.Texts.{numberUnless}
+use Rattle.putting.specs.code.Printed.{Printed}
+use Rattle.putting.proofs.Digits.{digits-short}
+use Rattle.putting.proofs.Texts.{dash, no-dash}
+use Rattle.printing.specs.Answer.{tableText, arrivalsIn, atLineZero, networkAnswer}
+use Rattle.printing.specs.code.Tables.{TableFits}
 
 -- ---- A predecessor is an arc or none
 

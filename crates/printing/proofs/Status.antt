@@ -3,7 +3,8 @@ use Prim.Native.Nat.{_≤_}
 use mathlib.Core.Path.{_≡_, refl}
 use native.Mathlib.Omega.{arith}
 use Rattle.townfile.specs.FirstFault.{Reading, refusedAt, accepted}
-use Rattle.printing.specs.Answer.{Arrivals, textOf, answerTo, arrivalsText, refusalText, tableText}
+use Rattle.putting.specs.Texts.{refusalText}
+use Rattle.printing.specs.Answer.{Arrivals, textOf, answerTo, arrivalsText, tableText}
 use Rattle.printing.specs.Status.{statusOf, statusFor, StatusTells}
 
 text-tells : (answer : Reading Arrivals) → statusOf (textOf answer) ≡ statusFor answer

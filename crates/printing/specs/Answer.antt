@@ -4,7 +4,7 @@
 use Prim.Native.Nat.{ℕ, suc}
 use mathlib.Core.Bool.{cond, not}
 use mathlib.Core.List.{List, [], _∷_, _++_}
-use lib.Dec.{ltb, eqb}
+use lib.Dec.{ltb}
 use lib.ListN.{length}
 use Rattle.model.specs.Ticks.{never}
 use Rattle.model.specs.Labels.{noArc, labelsOf, predecessorsOf}
@@ -16,7 +16,8 @@ use Rattle.townfile.specs.Grammar.{networkOf}
 use Rattle.townfile.specs.Tables.{townOf}
 use Rattle.townfile.specs.declared.progress.Progress.{Progress}
 use Rattle.checking.specs.Question.{startRules}
-use Rattle.printing.specs.Digits.{digitsOf}
+use Rattle.putting.specs.Digits.{digitsOf}
+use Rattle.putting.specs.Texts.{numberUnless, refusalText}
 use Rattle.printing.specs.Question.{asks, sourceIn, departureIn, townText}
 
 -- ---- What is answered
@@ -53,10 +54,6 @@ answerTo input =
 
 -- ---- How it is printed
 
--- A number, or `-` where it is the mark for none.
-unfoldable pub numberUnless : ℕ → ℕ → List ℕ
-numberUnless none n = cond (eqb n none) (45 ∷ []) (digitsOf n)
-
 -- "Its number, its label, its predecessor, one space apart."
 unfoldable pub junctionLine : ℕ → ℕ → ℕ → List ℕ
 junctionLine junction label predecessor =
@@ -74,16 +71,6 @@ header = 106 ∷ 117 ∷ 110 ∷ 99 ∷ 116 ∷ 105 ∷ 111 ∷ 110 ∷ 32 ∷ 9
 
 unfoldable pub tableText : List ℕ → List ℕ → List ℕ
 tableText labels predecessors = header ++ junctionLines 0 labels predecessors
-
--- `refused ` and ` line `
-abbrev pub refusedWord : List ℕ
-refusedWord = 114 ∷ 101 ∷ 102 ∷ 117 ∷ 115 ∷ 101 ∷ 100 ∷ 32 ∷ []
-
-abbrev pub lineWord : List ℕ
-lineWord = 32 ∷ 108 ∷ 105 ∷ 110 ∷ 101 ∷ 32 ∷ []
-
-unfoldable pub refusalText : ℕ → ℕ → List ℕ
-refusalText number line = refusedWord ++ (digitsOf number ++ (lineWord ++ (digitsOf line ++ (lineFeed ∷ []))))
 
 abbrev pub textOf : Reading Arrivals → List ℕ
 textOf (refusedAt number line) = refusalText number line

@@ -11,7 +11,8 @@ use Rattle.model.specs.Labels.{Certified, Lowest}
 use Rattle.model.specs.Network.{netOf}
 use Rattle.townfile.specs.FirstFault.{refusedAt, firstFault}
 use Rattle.townfile.specs.Grammar.{Bytes, Town, Describes, networkOf}
-use Rattle.printing.specs.Answer.{tableText, refusalText, arrivalsText}
+use Rattle.putting.specs.Texts.{refusalText}
+use Rattle.printing.specs.Answer.{tableText, arrivalsText}
 use Rattle.printing.specs.Question.{QuestionAndText}
 
 -- "Otherwise the header shown below, then a line per junction: its number, its label, its predecessor." "A junction's label is the

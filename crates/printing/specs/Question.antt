@@ -1,44 +1,32 @@
 -- "A line `QU` source departure (two numbers in file form, LF at the end), then a town file."
-use Prim.Native.Nat.{ℕ, _+_, _*_}
+use Prim.Native.Nat.{ℕ, _*_, _+_}
 use mathlib.Core.Path.{_≡_}
-use mathlib.Core.Bool.{Bool, true, cond, _&&_}
+use mathlib.Core.Bool.{Bool, true, _&&_}
 use mathlib.Core.List.{List, [], _∷_, _++_}
 use mathlib.Core.Logic.{_↔_}
-use lib.Dec.{ltb, eqb}
-use lib.ListN.{length, getD, drop}
-use Rattle.townfile.specs.Bytes.{lineFeed, upTo}
-use Rattle.townfile.specs.Lines.{markOf, markAlone, numbersOf, numbersKeep}
+use lib.Dec.{eqb}
+use lib.ListN.{length, getD}
+use Rattle.townfile.specs.Bytes.{lineFeed}
 use Rattle.townfile.specs.Grammar.{Bytes, Fields}
-use Rattle.printing.specs.declared.question.Asked.{Asked}
-use Rattle.printing.specs.declared.question.Asked.the-variants.{Question, Malformed}
+use Rattle.asking.specs.Line.{numbersIn, ofForm, restOf}
 
 -- The mark as the number of its two bytes.
 abbrev pub markQU : ℕ
 markQU = 81 * 256 + 85
 
-abbrev pub firstLine : List ℕ → List ℕ
-firstLine input = upTo lineFeed input
-
--- The first line has its LF, and is the mark and two numbers.
+-- The first line is of the form, with two numbers.
 unfoldable pub asks : List ℕ → Bool
-asks input = ltb (length (firstLine input)) (length input) && eqb (markOf (firstLine input)) markQU && (markAlone (firstLine input) && numbersKeep 2 (firstLine input))
+asks input = ofForm markQU input && eqb (length (numbersIn input)) 2
 
 abbrev pub sourceIn : List ℕ → ℕ
-sourceIn input = getD (numbersOf (firstLine input)) 0 0
+sourceIn input = getD (numbersIn input) 0 0
 
 abbrev pub departureIn : List ℕ → ℕ
-departureIn input = getD (numbersOf (firstLine input)) 1 0
+departureIn input = getD (numbersIn input) 1 0
 
--- Where the town file begins, and the file.
-abbrev pub townStart : List ℕ → ℕ
-townStart input = length (firstLine input) + 1
-
+-- The town file is what follows the line.
 abbrev pub townText : List ℕ → List ℕ
-townText input = drop (townStart input) input
-
--- What the code finds.
-unfoldable pub askedBy : List ℕ → Asked
-askedBy input = cond (asks input) (Question (sourceIn input) (departureIn input) (townStart input)) Malformed
+townText input = restOf input
 
 -- The same as the grammar says it: `QU`, the source and the departure as fields, LF, and a text behind them.
 pub record QuestionAndText (input : List ℕ) (source departure : ℕ) (text : List ℕ) : Type 0 where

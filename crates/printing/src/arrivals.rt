@@ -2,17 +2,19 @@
 ghost use mathlib.Core.Path.{_≡_};
 ghost use Prim.Native.Nat.{_≤_};
 ghost use lib.ListN.{length, take};
-ghost use Rattle.model.specs.Network.{network};
+ghost use Rattle.model.specs.Lent.{lentNetwork, networkIn};
 ghost use Rattle.model.specs.NetworkRules.{networkCheck};
 ghost use Rattle.model.specs.Rules.{replied, written};
-ghost use Rattle.townfile.specs.Load.{counts, tables, LongEnough, networkAt};
+ghost use Rattle.townfile.specs.Load.{counts, LongEnough, networkAt};
+ghost use Rattle.townfile.specs.Lent.{lentTables, tablesIn};
 ghost use Rattle.labelling.specs.Labels.{outcomeOf, labelsAnswer, labelsAfter, predecessorsAfter};
+ghost use Rattle.putting.specs.code.Printed.{Printed};
 ghost use Rattle.printing.specs.Answer.{textOf, tableText, networkAnswer, townAnswer, arrivalsText};
-ghost use Rattle.printing.specs.Putting.{Printed, TableFits};
-use crate::put::put_refusal;
-use crate::question::Asked;
-use crate::question::question;
+ghost use Rattle.printing.specs.code.Tables.{TableFits};
+use crate::question::Question;
+use crate::question::question_in;
 use crate::table::put_table;
+use crate::table::refuse;
 use labelling::labels::Labelled;
 use labelling::labels::labels;
 use loading::load::Loaded;
@@ -39,9 +41,9 @@ fn label_parts(
 ) -> Labelled
     requires { ⌜ junctions ≤ length (now earliest) ⌝ }
     requires { ⌜ junctions ≤ length (now predecessors) ⌝ }
-    ensures answer { λ r. ⌜ outcomeOf r ≡ labelsAnswer (network junctions (now (fences .entry)) (now (tails .entry)) (now (heads .entry)) (now (lengths .entry)) (now (speeds .entry))) source departure (take junctions (now (earliest .entry))) (take junctions (now (predecessors .entry))) ⌝ }
-    ensures labels { λ _. ⌜ take junctions (now (earliest .exit)) ≡ labelsAfter (network junctions (now (fences .entry)) (now (tails .entry)) (now (heads .entry)) (now (lengths .entry)) (now (speeds .entry))) source departure (take junctions (now (earliest .entry))) (take junctions (now (predecessors .entry))) ⌝ }
-    ensures predecessors { λ _. ⌜ take junctions (now (predecessors .exit)) ≡ predecessorsAfter (network junctions (now (fences .entry)) (now (tails .entry)) (now (heads .entry)) (now (lengths .entry)) (now (speeds .entry))) source departure (take junctions (now (earliest .entry))) (take junctions (now (predecessors .entry))) ⌝ }
+    ensures answer { λ r. ⌜ outcomeOf r ≡ labelsAnswer (lentNetwork junctions fences tails heads lengths speeds) source departure (take junctions (now (earliest .entry))) (take junctions (now (predecessors .entry))) ⌝ }
+    ensures labels { λ _. ⌜ take junctions (now (earliest .exit)) ≡ labelsAfter (lentNetwork junctions fences tails heads lengths speeds) source departure (take junctions (now (earliest .entry))) (take junctions (now (predecessors .entry))) ⌝ }
+    ensures predecessors { λ _. ⌜ take junctions (now (predecessors .exit)) ≡ predecessorsAfter (lentNetwork junctions fences tails heads lengths speeds) source departure (take junctions (now (earliest .entry))) (take junctions (now (predecessors .entry))) ⌝ }
 {
     let count = junctions as usize;
     labels(
@@ -85,8 +87,8 @@ fn network_arrivals(
     departure: u32,
     output: &mut [u8; 4096],
 ) -> usize
-    requires { ⌜ networkCheck (network junctions (now fences) (now tails) (now heads) (now lengths) (now speeds)) ≡ replied tt ⌝ }
-    ensures { λ r. ⌜ Printed (textOf (networkAnswer (network junctions (now (fences .entry)) (now (tails .entry)) (now (heads .entry)) (now (lengths .entry)) (now (speeds .entry))) source departure)) (now (output .entry)) (now (output .exit)) r ⌝ }
+    requires { ⌜ networkCheck (networkIn junctions fences tails heads lengths speeds) ≡ replied tt ⌝ }
+    ensures { λ r. ⌜ Printed (textOf (networkAnswer (lentNetwork junctions fences tails heads lengths speeds) source departure)) (now (output .entry)) (now (output .exit)) r ⌝ }
 {
     let mut earliest = [0u32; MAX_JUNCTIONS];
     let mut predecessors = [0u16; MAX_JUNCTIONS];
@@ -102,7 +104,7 @@ fn network_arrivals(
         &mut earliest,
         &mut predecessors,
     ) {
-        Labelled::Refused(refusal) => put_refusal(output, refusal, 0),
+        Labelled::Refused(refusal) => refuse(output, refusal, 0),
         Labelled::Written => put_parts(output, junctions, &earliest, &predecessors),
     }
 }
@@ -121,9 +123,9 @@ fn loaded_arrivals(
     departure: u32,
     output: &mut [u8; 4096],
 ) -> usize
-    requires { ⌜ LongEnough (counts junctions intervals arcs) (tables (now fences) (now tails) (now heads) (now lengths) (now speeds)) ⌝ }
-    requires { ⌜ networkCheck (networkAt (counts junctions intervals arcs) (tables (now fences) (now tails) (now heads) (now lengths) (now speeds))) ≡ replied tt ⌝ }
-    ensures { λ r. ⌜ Printed (textOf (networkAnswer (networkAt (counts junctions intervals arcs) (tables (now (fences .entry)) (now (tails .entry)) (now (heads .entry)) (now (lengths .entry)) (now (speeds .entry)))) source departure)) (now (output .entry)) (now (output .exit)) r ⌝ }
+    requires { ⌜ LongEnough (counts junctions intervals arcs) (tablesIn fences tails heads lengths speeds) ⌝ }
+    requires { ⌜ networkCheck (networkAt (counts junctions intervals arcs) (tablesIn fences tails heads lengths speeds)) ≡ replied tt ⌝ }
+    ensures { λ r. ⌜ Printed (textOf (networkAnswer (networkAt (counts junctions intervals arcs) (lentTables fences tails heads lengths speeds)) source departure)) (now (output .entry)) (now (output .exit)) r ⌝ }
 {
     let width = intervals as usize;
     let count = arcs as usize;
@@ -158,7 +160,7 @@ fn town_arrivals(text: &[u8], source: u32, departure: u32, output: &mut [u8; 409
         &mut lengths,
         &mut speeds,
     ) {
-        Loaded::Refused { refusal, line } => put_refusal(output, refusal, line),
+        Loaded::Refused { refusal, line } => refuse(output, refusal, line),
         Loaded::Counts {
             junctions,
             intervals,
@@ -184,15 +186,15 @@ pub fn arrivals(input: &[u8], output: &mut [u8; 4096]) -> usize
     ensures output { λ _. ⌜ now (output .exit) ≡ written (arrivalsText (now (input .entry))) (now (output .entry)) ⌝ }
 {
     if MAX_TEXT < input.len() {
-        return put_refusal(output, Refusal::TextLength, 0);
+        return refuse(output, Refusal::TextLength, 0);
     }
-    let Asked::Question {
+    let Question::Asked {
         source,
         departure,
         town,
-    } = question(input)
+    } = question_in(input)
     else {
-        return put_refusal(output, Refusal::FieldForm, 0);
+        return refuse(output, Refusal::FieldForm, 0);
     };
     town_arrivals(&input[town..], source, departure, output)
 }

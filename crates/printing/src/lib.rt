@@ -2,6 +2,5 @@
 // program's.
 pub mod arrivals;
 pub mod exit;
-mod put;
 mod question;
 mod table;

@@ -6,7 +6,7 @@ use lib.ListN.{length}
 use denote.Ref.{now}
 use borrow.Rule.Slice.PartAt.{part-to-end}
 use Rattle.model.specs.Rules.{written}
-use Rattle.printing.specs.Putting.{Printed}
+use Rattle.putting.specs.code.Printed.{Printed}
 use Rattle.printing.proofs.Answers.{TextAsked, text-too-long, text-not-asked, text-asked}
 use borrow.Author.Needs.{needs}
 use Rattle.printing.proofs.arrivals.arrivals.Statement.{statement}
@@ -15,14 +15,22 @@ use Rattle.printing.proofs.arrivals.arrivals.Tie as tie
 both : {text before after : List ℕ} {count : ℕ} → Printed text before after count → (count ≡ length text) × (after ≡ written text before)
 both p = (p .counted, p .holds)
 
-question-asked : (c : tie.After-known-told) → TextAsked (now (c .before .before .before .before .before .before .args .input)) (c .before .source .given .0 .0) (c .before .source .given .0 .1 .0) (c .before .source .given .0 .1 .1 .0)
-question-asked c = text-asked _ (sym (c .before .before .before .question .ensures) ∙ c .before .source .given .1)
+-- the question that was found
+abbrev begun : tie.After-known-told → tie.Start
+begun c = c .before .before .before .before .before .before
+
+question-asked : (c : tie.After-known-told) →
+    TextAsked (now (begun c .args .input)) (c .before .source .given .0 .0) (c .before .source .given .0 .1 .0) (c .before .source .given .0 .1 .1 .0)
+question-asked c = text-asked _ (sym (c .before .before .before .question-in .ensures) ∙ c .before .source .given .1)
 
 returns : tie.Need-returns
-returns c = rw (text-too-long _ (c .before .before .if1 .taken)) (both (c .put-refusal .ensures))
+returns c = rw (text-too-long _ (c .before .before .if1 .taken)) (both (c .refuse .ensures))
 
 returns-2 : tie.Need-returns-2
-returns-2 c = rw (text-not-asked _ (c .before .before .before .before .before .if1 .left) (sym (c .before .before .before .before .question .ensures) ∙ c .before .before .enum-told .given .1)) (both (c .put-refusal2 .ensures))
+returns-2 c =
+    let read = c .before .before .before .before in
+    let none = sym (read .question-in .ensures) ∙ c .before .before .enum-told .given .1 in
+    rw (text-not-asked _ (read .before .if1 .left) none) (both (c .refuse2 .ensures))
 
 sub-town-arrivals : tie.Need-sub-town-arrivals
 sub-town-arrivals c = question-asked c .inside
@@ -32,8 +40,10 @@ part-town-arrivals-start c = question-asked c .inside
 
 returns-3 : tie.Need-returns-3
 returns-3 c =
-    let asked = question-asked (c .before .before .before) in
-    rw (asked .answers (c .before .before .before .before .before .before .before .if1 .left)) (both (rw (part-to-end (now (c .before .before .before .before .before .before .before .before .before .args .input)) (c .before .before .before .before .source .given .0 .1 .1 .0)) at (c .town-arrivals .ensures)))
+    let told = c .before .before .before in
+    let short = told .before .before .before .before .if1 .left in
+    let town = part-to-end (now (begun told .args .input)) (told .before .source .given .0 .1 .1 .0) in
+    rw (question-asked told .answers short) (both (rw town at (c .town-arrivals .ensures)))
 
 pub arrivals-spec : {M : Type 1} → statement M
 arrivals-spec =

@@ -53,7 +53,7 @@ returns : tie.Need-returns
 returns c =
     let called = c .before .before .before .before .before .before .before in
     let start = begun called in
-    rw (answer-refused (N start) _ _ (start .pre) _ _ (part-long start) (part-long start) (ap outcomeOf (sym (c .before .before .before .refusal .given .1)) ∙ called .label-parts .ensures .0)) (c .put-refusal .ensures)
+    rw (answer-refused (N start) _ _ (start .pre) _ _ (part-long start) (part-long start) (ap outcomeOf (sym (c .before .before .before .refusal .given .1)) ∙ called .label-parts .ensures .0)) (c .refuse .ensures)
 
 returns-2 : tie.Need-returns-2
 returns-2 c =

@@ -35,7 +35,7 @@ loaded-arrivals-requires c κs =
 returns : tie.Need-returns
 returns c =
     let called = c .before .before .before .before .before .before .before .before .before .before in
-    rw (town-refused _ (bytes called) _ _ (ap readingOf (sym (c .before .before .before .refusal .given .1)) ∙ called .load .ensures .0)) (c .put-refusal .ensures)
+    rw (town-refused _ (bytes called) _ _ (ap readingOf (sym (c .before .before .before .refusal .given .1)) ∙ called .load .ensures .0)) (c .refuse .ensures)
 
 returns-2 : tie.Need-returns-2
 returns-2 c = rw (loaded (c .before .before .before .before .before .before .before .before .before .before .before .before .before .before .before) (c .before .before .before .before .before .before .before .before .junctions .given .1) .answers) (c .loaded-arrivals .ensures)

@@ -1,0 +1,4 @@
+pub mod Digits
+pub mod Putting
+pub mod Texts
+pub mod code

@@ -1,0 +1,21 @@
+-- What the programs print beside their numbers: a mark for no number, and "`refused 25 line 0`". "Each printed line ends in LF."
+use Prim.Native.Nat.{ℕ}
+use mathlib.Core.Bool.{cond}
+use mathlib.Core.List.{List, [], _∷_, _++_}
+use lib.Dec.{eqb}
+use Rattle.townfile.specs.Bytes.{lineFeed}
+use Rattle.putting.specs.Digits.{digitsOf}
+
+-- A number, or `-` where it is the mark for none.
+unfoldable pub numberUnless : ℕ → ℕ → List ℕ
+numberUnless none n = cond (eqb n none) (45 ∷ []) (digitsOf n)
+
+-- `refused ` and ` line `
+abbrev pub refusedWord : List ℕ
+refusedWord = 114 ∷ 101 ∷ 102 ∷ 117 ∷ 115 ∷ 101 ∷ 100 ∷ 32 ∷ []
+
+abbrev pub lineWord : List ℕ
+lineWord = 32 ∷ 108 ∷ 105 ∷ 110 ∷ 101 ∷ 32 ∷ []
+
+unfoldable pub refusalText : ℕ → ℕ → List ℕ
+refusalText number line = refusedWord ++ (digitsOf number ++ (lineWord ++ (digitsOf line ++ (lineFeed ∷ []))))

@@ -61,7 +61,8 @@ fn route_in_tables(
 ) -> Routed
     requires { ⌜ LongEnough (counts junctions intervals arcs) (tablesIn fences tails heads lengths speeds) ⌝ }
     ensures answer { λ r. ⌜ outcomeOf r ≡ routeAnswer (networkAt (counts junctions intervals arcs) (lentTables fences tails heads lengths speeds)) source departure destination (now (list .entry)) ⌝ }
-    ensures arrival { λ r. ⌜ arrivalOf r ≡ routeArrival (networkAt (counts junctions intervals arcs) (lentTables fences tails heads lengths speeds)) source departure destination (now (list .entry)) ⌝ }
+    ensures arrival { λ r. ⌜ arrivalOf r ≡
+        routeArrival (networkAt (counts junctions intervals arcs) (lentTables fences tails heads lengths speeds)) source departure destination (now (list .entry)) ⌝ }
 {
     let speed_count = arcs * intervals;
     route(

@@ -79,7 +79,8 @@ fn offer(
 )
     requires { ⌜ Offerable a head tick interval (now fences) (now lengths) (now speeds) (now labels) (now predecessors) (now tree) ⌝ }
     ensures labels { λ _. ⌜ now (labels .exit) ≡ lowered (now (labels .entry)) head (arrivalOn (now (fences .entry)) (now (lengths .entry)) (now (speeds .entry)) a tick) ⌝ }
-    ensures predecessors { λ _. ⌜ now (predecessors .exit) ≡ taken (now (labels .entry)) (now (predecessors .entry)) head (arrivalOn (now (fences .entry)) (now (lengths .entry)) (now (speeds .entry)) a tick) a ⌝ }
+    ensures predecessors { λ _. ⌜ now (predecessors .exit) ≡
+        taken (now (labels .entry)) (now (predecessors .entry)) head (arrivalOn (now (fences .entry)) (now (lengths .entry)) (now (speeds .entry)) a tick) a ⌝ }
     ensures tree { λ _. ⌜ Rekeyed (now (labels .entry)) (now (tree .entry)) head (arrivalOn (now (fences .entry)) (now (lengths .entry)) (now (speeds .entry)) a tick) (now (tree .exit)) ⌝ }
 {
     let arc = a as usize;

@@ -27,7 +27,8 @@ pub fn labels(
 ) -> Labelled
     ensures answer { λ r. ⌜ outcomeOf r ≡ labelsAnswer (lentNetwork junctions fences tails heads lengths speeds) source (departure .number) (now (labels .entry)) (now (predecessors .entry)) ⌝ }
     ensures labels { λ _. ⌜ now (labels .exit) ≡ labelsAfter (lentNetwork junctions fences tails heads lengths speeds) source (departure .number) (now (labels .entry)) (now (predecessors .entry)) ⌝ }
-    ensures predecessors { λ _. ⌜ now (predecessors .exit) ≡ predecessorsAfter (lentNetwork junctions fences tails heads lengths speeds) source (departure .number) (now (labels .entry)) (now (predecessors .entry)) ⌝ }
+    ensures predecessors { λ _. ⌜ now (predecessors .exit) ≡
+        predecessorsAfter (lentNetwork junctions fences tails heads lengths speeds) source (departure .number) (now (labels .entry)) (now (predecessors .entry)) ⌝ }
 {
     let tick = departure.number;
     if let NetworkCheck::Refused(refusal) = question_check(

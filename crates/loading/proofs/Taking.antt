@@ -14,12 +14,12 @@ use Rattle.model.proofs.Rules.{true-both}
 use Rattle.townfile.specs.Bytes.{pieces}
 use Rattle.reading.specs.Fields.{lineFrom, fieldKeeps, fieldsFrom, numbersFrom, filledBy}
 use Rattle.loading.specs.code.Filling.{EndsInside, takenAt, NumbersFill, ArcFills}
-use Rattle.loading.specs.declared.fill.Taken.{Taken}
+use Rattle.loading.specs.declared.fill.NumberTaken.{NumberTaken}
 use Rattle.reading.proofs.NumbersLeft.{FieldRead, kept-field, field-goes, number-goes, word-gone, word-behind, end-behind, no-bytes, unfilled-without-field, unfilled-before-end}
 
 -- ---- One field
 
-pub record Taking (text : List ℕ) (at count : ℕ) (taken : Taken) : Type 0 where
+pub record Taking (text : List ℕ) (at count : ℕ) (taken : NumberTaken) : Type 0 where
   pub number : numbersFrom text at ≡ taken .value ∷ numbersFrom text (taken .next)
   pub still-fill : NumbersFill count text (taken .next)
   pub same-end : taken .next + length (lineFrom text (taken .next)) ≡ at + length (lineFrom text at)
@@ -42,7 +42,7 @@ module _ (text : List ℕ) (at : ℕ) where
   pub number-asked : (count : ℕ) → NumbersFill (suc count) text at → (fieldKeeps text at ≡ true) × EndsInside text at
   number-asked count fill = (field-kept count fill, fill .ends)
 
-  pub taking : (count : ℕ) (taken : Taken) → taken ≡ takenAt text at → NumbersFill (suc count) text at → Taking text at count taken
+  pub taking : (count : ℕ) (taken : NumberTaken) → taken ≡ takenAt text at → NumbersFill (suc count) text at → Taking text at count taken
   taking count taken e fill =
       let read : FieldRead text at (taken .value) (taken .next) = rw e (kept-field text at (field-kept count fill)) in
       let same = end-behind text at (taken .value) (taken .next) read in
@@ -64,7 +64,7 @@ module _ (text : List ℕ) (at : ℕ) where
   unfolding pieces
   no-numbers e = rw e
 
-pub first-within : {text : List ℕ} {at count : ℕ} {taken : Taken} → Taking text at count taken → every speedKeeps (numbersFrom text at) ≡ true →
+pub first-within : {text : List ℕ} {at count : ℕ} {taken : NumberTaken} → Taking text at count taken → every speedKeeps (numbersFrom text at) ≡ true →
     (taken .value ≤ 200) × (every speedKeeps (numbersFrom text (taken .next)) ≡ true)
 unfolding every
 first-within {text = text} {taken = taken} took within =
@@ -99,10 +99,10 @@ module _ {text : List ℕ} {at start count : ℕ} {before : List ℕ} {i k : ℕ
   pub next-asked : k < count → (fieldKeeps text i ≡ true) × EndsInside text i
   next-asked h = number-asked text i (count - (k + 1)) (next-fill h)
 
-  pub next-taking : k < count → (taken : Taken) → taken ≡ takenAt text i → Taking text i (count - (k + 1)) taken
+  pub next-taking : k < count → (taken : NumberTaken) → taken ≡ takenAt text i → Taking text i (count - (k + 1)) taken
   next-taking h taken e = taking text i (count - (k + 1)) taken e (next-fill h)
 
-  pub one-stored : k < count → (taken : Taken) → taken ≡ takenAt text i → Stored text at start count before (taken .next) (k + 1) (set table (start + k) (taken .value))
+  pub one-stored : k < count → (taken : NumberTaken) → taken ≡ takenAt text i → Stored text at start count before (taken .next) (k + 1) (set table (start + k) (taken .value))
   one-stored h taken e =
       let took = next-taking h taken e in
       record {
@@ -124,7 +124,7 @@ module _ {text : List ℕ} {at start count : ℕ} {before : List ℕ} {i k : ℕ
 
 -- ---- The numbers of an arc
 
-pub record ArcTaken (intervals : ℕ) (text : List ℕ) (at : ℕ) (tail head metres : Taken) : Type 0 where
+pub record ArcTaken (intervals : ℕ) (text : List ℕ) (at : ℕ) (tail head metres : NumberTaken) : Type 0 where
   pub tail-is : tail .value ≡ getD (numbersFrom text at) 0 0
   pub head-is : head .value ≡ getD (numbersFrom text at) 1 0
   pub metres-is : metres .value ≡ getD (numbersFrom text at) 2 0
@@ -135,7 +135,7 @@ pub record ArcTaken (intervals : ℕ) (text : List ℕ) (at : ℕ) (tail head me
 pub arc-starts : {intervals : ℕ} {text : List ℕ} {at : ℕ} → ArcFills intervals text at → NumbersFill (suc (suc (suc intervals))) text at
 arc-starts {intervals} fills = let three : 3 + intervals ≡ suc (suc (suc intervals)) = omega arith in rw three at (fills .numbers-fill)
 
-pub arc-taken : (intervals : ℕ) (text : List ℕ) (at : ℕ) (tail head metres : Taken) →
+pub arc-taken : (intervals : ℕ) (text : List ℕ) (at : ℕ) (tail head metres : NumberTaken) →
     Taking text at (suc (suc intervals)) tail → Taking text (tail .next) (suc intervals) head → Taking text (head .next) intervals metres → ArcTaken intervals text at tail head metres
 arc-taken intervals text at tail head metres first second third =
     let numbers : numbersFrom text at ≡ tail .value ∷ head .value ∷ metres .value ∷ numbersFrom text (metres .next) = rw (first .number, second .number, third .number) in

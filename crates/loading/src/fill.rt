@@ -15,14 +15,14 @@ use townfile::mark::ARC;
 use townfile::mark::FENCES;
 
 // A number and the place behind it.
-struct Taken {
+struct NumberTaken {
     value: u32,
     next: usize,
 }
 
 // The number of the field at a place. The scan has shown that it has the form and that its line ends in a line feed, so nothing is
 // tested again: the first byte that is no digit ends it.
-fn take_number(text: &[u8], at: usize) -> Taken
+fn take_number(text: &[u8], at: usize) -> NumberTaken
     requires { ⌜ fieldKeeps (now text) at ≡ true ⌝ }
     requires { ⌜ EndsInside (now text) at ⌝ }
     ensures { λ r. ⌜ r ≡ takenAt (now (text .entry)) at ⌝ }
@@ -37,7 +37,7 @@ fn take_number(text: &[u8], at: usize) -> Taken
                 value = value * 10 + ((byte - b'0') as u32);
             }
             _ => {
-                return Taken { value, next: i };
+                return NumberTaken { value, next: i };
             }
         }
         i += 1;

@@ -41,9 +41,12 @@ fn label_parts(
 ) -> Labelled
     requires { ⌜ junctions ≤ length (now earliest) ⌝ }
     requires { ⌜ junctions ≤ length (now predecessors) ⌝ }
-    ensures answer { λ r. ⌜ outcomeOf r ≡ labelsAnswer (lentNetwork junctions fences tails heads lengths speeds) source departure (take junctions (now (earliest .entry))) (take junctions (now (predecessors .entry))) ⌝ }
-    ensures labels { λ _. ⌜ take junctions (now (earliest .exit)) ≡ labelsAfter (lentNetwork junctions fences tails heads lengths speeds) source departure (take junctions (now (earliest .entry))) (take junctions (now (predecessors .entry))) ⌝ }
-    ensures predecessors { λ _. ⌜ take junctions (now (predecessors .exit)) ≡ predecessorsAfter (lentNetwork junctions fences tails heads lengths speeds) source departure (take junctions (now (earliest .entry))) (take junctions (now (predecessors .entry))) ⌝ }
+    ensures answer { λ r. ⌜ outcomeOf r ≡
+        labelsAnswer (lentNetwork junctions fences tails heads lengths speeds) source departure (take junctions (now (earliest .entry))) (take junctions (now (predecessors .entry))) ⌝ }
+    ensures labels { λ _. ⌜ take junctions (now (earliest .exit)) ≡
+        labelsAfter (lentNetwork junctions fences tails heads lengths speeds) source departure (take junctions (now (earliest .entry))) (take junctions (now (predecessors .entry))) ⌝ }
+    ensures predecessors { λ _. ⌜ take junctions (now (predecessors .exit)) ≡
+        predecessorsAfter (lentNetwork junctions fences tails heads lengths speeds) source departure (take junctions (now (earliest .entry))) (take junctions (now (predecessors .entry))) ⌝ }
 {
     let count = junctions as usize;
     labels(

@@ -11,14 +11,14 @@ use Rattle.townfile.specs.Lines.{markFN, markAR, markAlone, numbersOf, numbersK
 use Rattle.townfile.specs.Grammar.{Each, networkOf}
 use Rattle.townfile.specs.Tables.{marked, townOf}
 use Rattle.reading.specs.Fields.{lineFrom, wordFrom, numbersFrom, filledBy}
-use Rattle.loading.specs.declared.fill.Taken.{Taken}
+use Rattle.loading.specs.declared.fill.NumberTaken.{NumberTaken}
 
 -- The line from a place on ends before the text does: a line feed follows.
 abbrev pub EndsInside : List ℕ → ℕ → Type 0
 EndsInside text at = at + length (lineFrom text at) < length text
 
 -- The number of the field at a place, and where it ends.
-abbrev pub takenAt : List ℕ → ℕ → Taken
+abbrev pub takenAt : List ℕ → ℕ → NumberTaken
 takenAt text at = record { value = decimal (wordFrom text (at + 1)); next = at + 1 + length (wordFrom text (at + 1)) }
 
 -- So many numbers fill the rest of a line, and its line feed follows.

@@ -10,7 +10,8 @@ use lib.ListN.{length, getD, set, take, drop, take-append-drop, length-set}
 use lib.Seq.{take-suc, set-at, length-take-le}
 use Rattle.model.specs.Labels.{noArc}
 use Rattle.model.specs.Routes.{arcsBack}
-use Rattle.routing.specs.code.Following.{backFrom, Leads, here, back}
+use Rattle.routing.specs.code.Following.{backFrom, HasStep, StepIs, Leads, here, back}
+use Rattle.routing.specs.declared.route.StepBack.{StepBack}
 use Rattle.model.specs.Rules.{written}
 
 -- No more arcs are found than are allowed.
@@ -30,32 +31,25 @@ way-at-most tails source predecessors j = arcs-back-at-most (λ a. getD tails a 
 
 -- ---- One arc back
 
--- The junction's predecessor is in the tables, and its tail leads on.
-pub record StepBack (tails : List ℕ) (source : ℕ) (predecessors : List ℕ) (j : ℕ) (arcs : List ℕ) : Type 0 where
-  pub has-predecessor : j < length predecessors
-  pub has-tail : getD predecessors j 0 < length tails
+-- The tables have the junction's step back, and its tail leads on.
+pub record LeadsOn (tails : List ℕ) (source : ℕ) (predecessors : List ℕ) (j : ℕ) (arcs : List ℕ) : Type 0 where
+  pub has-step : HasStep tails predecessors j
   pub rest : List ℕ
   pub arcs-are : arcs ≡ getD predecessors j 0 ∷ rest
   pub leads-on : Leads tails source predecessors (getD tails (getD predecessors j 0) 0) rest
 
 module _ {tails : List ℕ} {source : ℕ} {predecessors : List ℕ} where
-  step-of : {j : ℕ} {arcs : List ℕ} → Leads tails source predecessors j arcs → 0 < length arcs → StepBack tails source predecessors j arcs
+  step-of : {j : ℕ} {arcs : List ℕ} → Leads tails source predecessors j arcs → 0 < length arcs → LeadsOn tails source predecessors j arcs
   step-of here some = absurd (omega arith)
-  step-of (back j {arcs} other inside is-arc rest) some = record {
-    has-predecessor = inside;
-    has-tail = is-arc;
-    rest = arcs;
-    arcs-are = refl;
-    leads-on = rest;
-  }
+  step-of (back j {arcs} other has rest) some = record { has-step = has; rest = arcs; arcs-are = refl; leads-on = rest }
 
   some-arc : {j : ℕ} {arcs : List ℕ} → Leads tails source predecessors j arcs → (j ≡ source → ⊥) → 0 < length arcs
   some-arc here other = absurd (other refl)
-  some-arc (back j other′ inside is-arc rest) other = omega arith
+  some-arc (back j other′ has rest) other = omega arith
 
   no-arc : {j : ℕ} {arcs : List ℕ} → Leads tails source predecessors j arcs → j ≡ source → length arcs ≡ 0
   no-arc here e = refl
-  no-arc (back j other inside is-arc rest) e = absurd (other e)
+  no-arc (back j other has rest) e = absurd (other e)
 
 -- ---- Counting
 
@@ -68,16 +62,16 @@ pub counting-starts : {tails : List ℕ} {source : ℕ} {predecessors : List ℕ
 counting-starts {arcs} l = record { left = arcs; leads = l; adds-up = omega arith }
 
 module _ {tails : List ℕ} {source : ℕ} {predecessors : List ℕ} {total j count : ℕ} (c : Counting tails source predecessors total j count) where
-  pub counting-step : (j ≡ source → ⊥) → StepBack tails source predecessors j (c .left)
+  pub counting-step : (j ≡ source → ⊥) → LeadsOn tails source predecessors j (c .left)
   counting-step other = step-of (c .leads) (some-arc (c .leads) other)
 
   pub counting-more : (j ≡ source → ⊥) → count < total
   counting-more other = omega (arith, some-arc (c .leads) other, c .adds-up)
 
-  pub counting-goes-on : (j ≡ source → ⊥) → Counting tails source predecessors total (getD tails (getD predecessors j 0) 0) (count + 1)
-  counting-goes-on other =
+  pub counting-goes-on : (j ≡ source → ⊥) → {step : StepBack} → StepIs tails predecessors j step → Counting tails source predecessors total (step .tail) (count + 1)
+  counting-goes-on other made =
       let s = counting-step other in
-      record { left = s .rest; leads = s .leads-on; adds-up = omega (arith, c .adds-up, ap length (s .arcs-are)) }
+      rw (made .tail-is) record { left = s .rest; leads = s .leads-on; adds-up = omega (arith, c .adds-up, ap length (s .arcs-are)) }
 
   pub counting-ends : j ≡ source → count ≡ total
   counting-ends e = omega (arith, c .adds-up, no-arc (c .leads) e)
@@ -95,7 +89,8 @@ pub record Writing (tails : List ℕ) (source : ℕ) (predecessors route before 
   pub k-fits : k ≤ length before
   pub arcs-long : length arcs ≡ length before
 
-pub writing-starts : {tails : List ℕ} {source : ℕ} {predecessors : List ℕ} {j count : ℕ} {back-arcs before : List ℕ} → Leads tails source predecessors j back-arcs → count ≡ length back-arcs → count ≤ length before →
+pub writing-starts : {tails : List ℕ} {source : ℕ} {predecessors : List ℕ} {j count : ℕ} {back-arcs before : List ℕ} →
+    Leads tails source predecessors j back-arcs → count ≡ length back-arcs → count ≤ length before →
     Writing tails source predecessors (reverse back-arcs) before before count j count
 writing-starts {count} {back-arcs} {before} l same fits = record {
   left = back-arcs;
@@ -109,18 +104,19 @@ writing-starts {count} {back-arcs} {before} l same fits = record {
 }
 
 module _ {tails : List ℕ} {source : ℕ} {predecessors route before arcs : List ℕ} {count j k : ℕ} (w : Writing tails source predecessors route before arcs count j k) where
-  pub writing-step : 0 < k → StepBack tails source predecessors j (w .left)
+  pub writing-step : 0 < k → LeadsOn tails source predecessors j (w .left)
   writing-step some = step-of (w .leads) (omega (arith, w .k-left))
 
-  pub writing-goes-on : (p : ℕ) → suc p ≡ k → Writing tails source predecessors route before (set arcs p (getD predecessors j 0)) count (getD tails (getD predecessors j 0) 0) p
-  writing-goes-on p less =
+  pub writing-goes-on : (p : ℕ) → suc p ≡ k → {step : StepBack} → StepIs tails predecessors j step →
+      Writing tails source predecessors route before (set arcs p (step .arc)) count (step .tail) p
+  writing-goes-on p less made =
       let s = writing-step (omega arith) in
       let a = getD predecessors j 0 in
       let behind = w .done ++ drop count before in
       let inside : p < length before = omega (arith, w .k-fits) in
       let split : arcs ≡ take p before ++ (getD before p 0 ∷ behind) =
       w .arcs-are ∙ rw (← less, take-suc before p 0 inside, append-assoc) in
-      record {
+      rw (made .arc-is, made .tail-is) record {
         left = s .rest;
         done = a ∷ w .done;
         leads = s .leads-on;

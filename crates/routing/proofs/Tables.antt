@@ -7,7 +7,7 @@ use mathlib.Core.Option.{Option, none}
 use native.Mathlib.Omega.{arith}
 use lib.ListN.{length, getD, length-reverse}
 use borrow.Author.Tests.{lt-ltb, le-ltb, eq-eqb, ne-eqb, lt-leb}
-use Rattle.model.specs.Ticks.{never}
+use Rattle.model.specs.Ticks.{never, last}
 use Rattle.model.specs.Limits.{maxJunctions}
 use Rattle.model.specs.Network.{Network, Accepted, netOf}
 use Rattle.model.specs.Demands.{label}
@@ -23,7 +23,7 @@ use Rattle.checking.specs.Question.{questionRules, questionCheck, Taken}
 use Rattle.checking.proofs.QuestionRules.{kept-taken}
 use Rattle.labelling.specs.Labels.{labelsAnswer, labelsAfter, predecessorsAfter}
 use Rattle.model.proofs.Entries.{getD-inside}
-use Rattle.routing.specs.code.Following.{backFrom, Leads, Reached, Follows, no-junction, unreached, too-short, found}
+use Rattle.routing.specs.code.Following.{backFrom, HasStep, Leads, Reached, Follows, no-junction, unreached, too-short, found}
 use Rattle.routing.specs.Route.{outcomeOf, arrivalOf, routeAnswer, routeArrival, arcsAfter}
 use Rattle.routing.specs.declared.route.Routed.{Routed}
 use Rattle.routing.proofs.RouteRules.{route, own, own-decides, replies}
@@ -50,7 +50,8 @@ pub record LabelsCalled (N : Network) (source departure : ℕ) (outcome : Outcom
 -- By its contract; the tables are then read where they stand after it.
 pub labels-called : (N : Network) (source departure : ℕ) (labels predecessors : List ℕ) → length labels ≡ N .junctions → length predecessors ≡ N .junctions →
     {outcome : Outcome (Unit {0})} {labels′ predecessors′ : List ℕ} →
-    (outcome ≡ labelsAnswer N source departure labels predecessors) × ((labels′ ≡ labelsAfter N source departure labels predecessors) × (predecessors′ ≡ predecessorsAfter N source departure labels predecessors)) →
+    (outcome ≡ labelsAnswer N source departure labels predecessors)
+    × ((labels′ ≡ labelsAfter N source departure labels predecessors) × (predecessors′ ≡ predecessorsAfter N source departure labels predecessors)) →
     {labels″ predecessors″ : List ℕ} → labels″ ≡ labels′ → predecessors″ ≡ predecessors′ → LabelsCalled N source departure outcome labels″ predecessors″
 unfolding labelsAnswer questionCheck firstBroken
 labels-called N source departure labels predecessors labels-long predecessors-long ends l p = record {
@@ -67,13 +68,16 @@ trail-leads N accepted source labels predecessors long here = Leads.here
 trail-leads N accepted source labels predecessors long (back j other at rest) =
     let inside : j < length predecessors = omega (arith, at .into, accepted .head-below (getD predecessors j noArc) (at .is-arc)) in
     let same = getD-inside predecessors j noArc 0 inside in
-    rw same (Leads.back j other inside (rw same at (at .is-arc)) (rw same at (trail-leads N accepted source labels predecessors long rest)))
+    let has : HasStep (N .tails) predecessors j = record { has-predecessor = inside; has-tail = rw same at (at .is-arc) } in
+    rw same (Leads.back j other has (rw same at (trail-leads N accepted source labels predecessors long rest)))
 
 module _ {N : Network} {source departure : ℕ} {outcome : Outcome (Unit {0})} {labels predecessors : List ℕ} (t : LabelsCalled N source departure outcome labels predecessors) where
   pub labels-refuses : {number : ℕ} → outcome ≡ refused number → (destination : ℕ) (arcs : List ℕ) → Ends N source departure destination arcs (refused number) none arcs
   unfolding routeAnswer questionCheck
   labels-refuses {number} refuses destination arcs =
-      let answer = refused-before (questionRules N source departure) (own N source departure destination arcs) tt (length (route N source departure destination arcs)) number (sym (t .as-question) ∙ refuses) in
+      let count = length (route N source departure destination arcs) in
+      let first : questionCheck N source departure ≡ refused number = sym (t .as-question) ∙ refuses in
+      let answer = refused-before (questionRules N source departure) (own N source departure destination arcs) tt count number first in
       (sym answer, (rw answer, rw answer))
 
   module _ (wrote : outcome ≡ replied tt) where
@@ -84,8 +88,13 @@ module _ {N : Network} {source departure : ℕ} {outcome : Outcome (Unit {0})} {
     taken : Taken N source departure
     taken = kept-taken N source departure kept
 
+    in-time : departure ≤ last
+    in-time = omega (arith, taken .departure-below)
+
     certified : Certified (netOf N) source departure labels predecessors
-    certified = rw (t .labels-are wrote, t .predecessors-are wrote) (labels-certified (netOf N) (accepted-sound N (taken .accepted)) source departure (taken .source-below) (omega (arith, taken .departure-below)))
+    certified =
+        rw (t .labels-are wrote, t .predecessors-are wrote)
+        (labels-certified (netOf N) (accepted-sound N (taken .accepted)) source departure (taken .source-below) in-time)
 
     pub few : length predecessors ≤ maxJunctions
     few = omega (arith, certified .predecessors-long, taken .accepted .junctions-fit)
@@ -115,21 +124,28 @@ module _ {N : Network} {source departure : ℕ} {outcome : Outcome (Unit {0})} {
 
       pub leads : Reached labels destination → Leads (N .tails) source predecessors destination way
       leads r =
+          let sound = accepted-sound N (taken .accepted) in
+          let trail = whole (netOf N) sound source departure (taken .source-below) in-time destination (below (r .is-junction)) (has-label r) in
           rw way-is
           (trail-leads N (taken .accepted) source labels predecessors (certified .predecessors-long)
-          (rw (t .labels-are wrote, t .predecessors-are wrote)
-          (whole (netOf N) (accepted-sound N (taken .accepted)) source departure (taken .source-below) (omega (arith, taken .departure-below)) destination (below (r .is-junction)) (has-label r))))
+          (rw (t .labels-are wrote, t .predecessors-are wrote) trail))
 
       -- Each test of Route's own rules, as following finds it.
       pub follows-ends : {arcs arcs′ : List ℕ} {answer : Routed} → Follows labels destination way arcs answer arcs′ →
           Ends N source departure destination arcs (outcomeOf answer) (arrivalOf answer) arcs′
       unfolding firstBroken
       follows-ends {arcs} (no-junction outside) =
-          rw (own-decides N source departure destination arcs kept, le-ltb destination (N .junctions) (omega (arith, certified .labels-long))) (refl, (refl, refl))
+          let unknown = le-ltb destination (N .junctions) (omega (arith, certified .labels-long)) in
+          rw (own-decides N source departure destination arcs kept, unknown) (refl, (refl, refl))
       follows-ends {arcs} (unreached inside e) =
-          rw (own-decides N source departure destination arcs kept, lt-ltb destination (N .junctions) (below inside), eq-eqb (label N source departure destination) never (label-is inside ∙ e)) (refl, (refl, refl))
+          let known = lt-ltb destination (N .junctions) (below inside) in
+          let never-there = eq-eqb (label N source departure destination) never (label-is inside ∙ e) in
+          rw (own-decides N source departure destination arcs kept, known, never-there) (refl, (refl, refl))
       follows-ends {arcs} (too-short r short) =
-          rw (own-decides N source departure destination arcs kept, lt-ltb destination (N .junctions) (below (r .is-junction)), ne-eqb (label N source departure destination) never (has-label r), lt-ltb (length arcs) (length (routeOf (netOf N) source departure destination)) (omega (arith, route-long))) (refl, (refl, refl))
+          let known = lt-ltb destination (N .junctions) (below (r .is-junction)) in
+          let there = ne-eqb (label N source departure destination) never (has-label r) in
+          let no-room = lt-ltb (length arcs) (length (routeOf (netOf N) source departure destination)) (omega (arith, route-long)) in
+          rw (own-decides N source departure destination arcs kept, known, there, no-room) (refl, (refl, refl))
       follows-ends {arcs} (found r room same is) =
           rw (replies N source departure destination arcs kept (below (r .is-junction)) (has-label r) (omega (arith, route-long)))
           (ap replied (same ∙ route-long), (rw (label-is (r .is-junction)), is ∙ ap (λ l. written l arcs) route-is))

@@ -6,7 +6,7 @@ ghost use mathlib.Core.List.{reverse};
 ghost use Rattle.model.specs.Limits.{maxJunctions};
 ghost use Rattle.model.specs.Rules.{written};
 ghost use Rattle.model.specs.Lent.{lentNetwork};
-ghost use Rattle.routing.specs.code.Following.{backFrom, Leads, Reached, Follows};
+ghost use Rattle.routing.specs.code.Following.{backFrom, HasStep, StepIs, Leads, Reached, Follows};
 ghost use Rattle.routing.specs.Route.{outcomeOf, arrivalOf, routeAnswer, routeArrival, arcsAfter};
 use labelling::labels::Labelled;
 use labelling::labels::labels;
@@ -22,6 +22,23 @@ pub enum Routed {
     Refused(Refusal),
 }
 
+// A junction's predecessor, and the junction that it comes from.
+struct StepBack {
+    arc: u16,
+    tail: usize,
+}
+
+fn step_back(tails: &[u16], predecessors: &[u16], junction: usize) -> StepBack
+    requires { ⌜ HasStep (now tails) (now predecessors) junction ⌝ }
+    ensures { λ r. ⌜ StepIs (now (tails .entry)) (now (predecessors .entry)) junction r ⌝ }
+{
+    let arc = predecessors[junction];
+    StepBack {
+        arc,
+        tail: tails[arc as usize] as usize,
+    }
+}
+
 // How many arcs the predecessors lead by from the destination back to the source.
 fn count_arcs(tails: &[u16], predecessors: &[u16], source: usize, destination: usize) -> usize
     requires { ⌜ Leads (now tails) source (now predecessors) destination (backFrom (now tails) source (now predecessors) destination) ⌝ }
@@ -30,8 +47,7 @@ fn count_arcs(tails: &[u16], predecessors: &[u16], source: usize, destination: u
     let mut junction = destination;
     let mut count = 0;
     while junction != source {
-        let arc = predecessors[junction] as usize;
-        junction = tails[arc] as usize;
+        junction = step_back(tails, predecessors, junction).tail;
         count += 1;
     }
     count
@@ -55,9 +71,9 @@ fn write_arcs(
     let mut k = count;
     while 0 < k {
         k -= 1;
-        let a = predecessors[junction];
-        arcs[k] = a;
-        junction = tails[a as usize] as usize;
+        let step = step_back(tails, predecessors, junction);
+        arcs[k] = step.arc;
+        junction = step.tail;
     }
 }
 

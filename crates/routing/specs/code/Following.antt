@@ -8,16 +8,26 @@ use Rattle.model.specs.Rules.{written}
 use Rattle.model.specs.Ticks.{never}
 use Rattle.refusals.specs.declared.refusal.Refusal.the-variants.{Destination, Unreached, ArcListLength}
 use Rattle.routing.specs.declared.route.Routed.{Routed}
+use Rattle.routing.specs.declared.route.StepBack.{StepBack}
 use Rattle.routing.specs.declared.route.Routed.the-variants.{Arcs, Refused}
 
 -- The arcs from a junction back to the source, the last arc first.
 abbrev pub backFrom : List ℕ → ℕ → List ℕ → ℕ → List ℕ
 backFrom tails source predecessors j = arcsBack (λ a. getD tails a 0) source predecessors (length predecessors) j
 
+-- The tables have the junction's predecessor, and that arc's tail.
+pub record HasStep (tails predecessors : List ℕ) (j : ℕ) : Type 0 where
+  pub has-predecessor : j < length predecessors
+  pub has-tail : getD predecessors j 0 < length tails
+
+pub record StepIs (tails predecessors : List ℕ) (j : ℕ) (step : StepBack) : Type 0 where
+  pub arc-is : step .arc ≡ getD predecessors j 0
+  pub tail-is : step .tail ≡ getD tails (getD predecessors j 0) 0
+
 -- The predecessors lead from the junction by these arcs to the source, through entries that the tables have.
 pub data Leads (tails : List ℕ) (source : ℕ) (predecessors : List ℕ) : ℕ → List ℕ → Type 0 where
   here : Leads tails source predecessors source []
-  back : (j : ℕ) {arcs : List ℕ} → (j ≡ source → ⊥) → j < length predecessors → getD predecessors j 0 < length tails →
+  back : (j : ℕ) {arcs : List ℕ} → (j ≡ source → ⊥) → HasStep tails predecessors j →
       Leads tails source predecessors (getD tails (getD predecessors j 0) 0) arcs → Leads tails source predecessors j (getD predecessors j 0 ∷ arcs)
 
 -- ---- From the tables to the answer

@@ -2,7 +2,7 @@
 ghost use mathlib.Core.Path.{_≡_};
 ghost use Rattle.townfile.specs.Load.{loadAnswer, tablesAfter};
 ghost use Rattle.townfile.specs.Name.{namePlace};
-ghost use Rattle.townfile.specs.Lent.{lentTables};
+ghost use Rattle.townfile.specs.Lent.{lentTables, leftTables};
 ghost use Rattle.exports.specs.Codes.{loadCode, placeCode};
 use loading::load::Loaded;
 use loading::load::load;
@@ -26,11 +26,7 @@ pub extern "C" fn exports_load(
     speeds: &mut [u8],
 ) -> u64
     ensures answer { λ r. ⌜ r ≡ loadCode (loadAnswer (now (text .entry)) (lentTables fences tails heads lengths speeds)) ⌝ }
-    ensures fences { λ _. ⌜ now (fences .exit) ≡ tablesAfter (now (text .entry)) (lentTables fences tails heads lengths speeds) .fences ⌝ }
-    ensures tails { λ _. ⌜ now (tails .exit) ≡ tablesAfter (now (text .entry)) (lentTables fences tails heads lengths speeds) .tails ⌝ }
-    ensures heads { λ _. ⌜ now (heads .exit) ≡ tablesAfter (now (text .entry)) (lentTables fences tails heads lengths speeds) .heads ⌝ }
-    ensures lengths { λ _. ⌜ now (lengths .exit) ≡ tablesAfter (now (text .entry)) (lentTables fences tails heads lengths speeds) .lengths ⌝ }
-    ensures speeds { λ _. ⌜ now (speeds .exit) ≡ tablesAfter (now (text .entry)) (lentTables fences tails heads lengths speeds) .speeds ⌝ }
+    ensures tables { λ _. ⌜ leftTables fences tails heads lengths speeds ≡ tablesAfter (now (text .entry)) (lentTables fences tails heads lengths speeds) ⌝ }
 {
     match load(text, fences, tails, heads, lengths, speeds) {
         Loaded::Counts {

@@ -15,7 +15,7 @@ use Rattle.townfile.specs.Numbers.{decimal, numberKeeps}
 use Rattle.townfile.specs.Grammar.{networkOf, Each}
 use Rattle.townfile.specs.Lines.{markFN, markAR, markOf, markAlone, fieldsOf, numbersOf, numbersKeep}
 use Rattle.townfile.specs.Tables.{arcOf, townOf}
-use Rattle.townfile.specs.Load.{Tables, tables}
+use Rattle.townfile.specs.Load.{Tables, tables, holding}
 use Rattle.reading.specs.Fields.{lineFrom, numbersFrom}
 use Rattle.loading.specs.code.Filling.{EndsInside, NumbersFill, ArcFills, FencesLine, ArcLine, Fillable}
 use Rattle.reading.proofs.BehindMark.{BehindMark}
@@ -228,23 +228,18 @@ module _ {intervals : ℕ} (text : List ℕ) {before : Tables} (at : ℕ) {fence
       rw (this-unmarked markFN (λ z. omega arith) text at next e no-fences, this-unmarked markAR (λ z. omega arith) text at next e no-arc) at filled
 
   -- Where none is left.
-  pub filled-whole : length text ≤ at → Fillable intervals text (before .fences) (before .tails) (before .heads) (before .lengths) (before .speeds) →
-      let N = networkOf (townOf text) in
-      (lent .fences ≡ written (N .fences) (before .fences))
-      × ((lent .tails ≡ written (N .tails) (before .tails))
-      × ((lent .heads ≡ written (N .heads) (before .heads))
-      × ((lent .lengths ≡ written (N .lengths) (before .lengths))
-      × (lent .speeds ≡ written (N .speeds) (before .speeds)))))
+  pub filled-whole : length text ≤ at → Fillable intervals text (before .fences) (before .tails) (before .heads) (before .lengths) (before .speeds) → lent ≡ holding (networkOf (townOf text)) before
   unfolding townOf flatten
   filled-whole past fillable =
-      let fences = none-left markFN (λ z. omega arith) text at past in
-      let arcs = none-left markAR (λ z. omega arith) text at past in (
-        all-filled (filled .fences-filled) (fillable .fences-long) (rw fences),
-        (
-          all-filled (filled .tails-filled) (fillable .tails-long) (rw arcs),
-          (
-            all-filled (filled .heads-filled) (fillable .heads-long) (rw arcs),
-            (all-filled (filled .lengths-filled) (fillable .lengths-long) (rw arcs), all-filled (filled .speeds-filled) (fillable .speeds-long) (rw arcs)),
-          ),
-        ),
-      )
+      let no-fences = none-left markFN (λ z. omega arith) text at past in
+      let no-arcs = none-left markAR (λ z. omega arith) text at past in
+      same-tables lent (holding (networkOf (townOf text)) before)
+      (all-filled (filled .fences-filled) (fillable .fences-long) (rw no-fences))
+      (all-filled (filled .tails-filled) (fillable .tails-long) (rw no-arcs))
+      (all-filled (filled .heads-filled) (fillable .heads-long) (rw no-arcs))
+      (all-filled (filled .lengths-filled) (fillable .lengths-long) (rw no-arcs))
+      (all-filled (filled .speeds-filled) (fillable .speeds-long) (rw no-arcs))
+    where
+      -- Tables that are equal one by one.
+      same-tables : (a b : Tables) → a .fences ≡ b .fences → a .tails ≡ b .tails → a .heads ≡ b .heads → a .lengths ≡ b .lengths → a .speeds ≡ b .speeds → a ≡ b
+      same-tables a b f t h l s = rw (← f, ← t, ← h, ← l, ← s)

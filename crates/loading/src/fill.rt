@@ -4,9 +4,11 @@ ghost use mathlib.Core.Bool.{true};
 ghost use Prim.Native.Nat.{_+_, _*_, _≤_, _<_};
 ghost use lib.ListN.{length, getD, set, drop};
 ghost use lib.Seq.{sets};
-ghost use Rattle.model.specs.Rules.{every, speedKeeps, written};
+ghost use Rattle.model.specs.Rules.{every, speedKeeps};
 ghost use Rattle.townfile.specs.Grammar.{networkOf};
 ghost use Rattle.townfile.specs.Tables.{townOf};
+ghost use Rattle.townfile.specs.Load.{holding};
+ghost use Rattle.townfile.specs.Lent.{lentTables, leftTables};
 ghost use Rattle.reading.specs.Fields.{lineFrom, fieldKeeps, numbersFrom};
 ghost use Rattle.loading.specs.code.Filling.{EndsInside, takenAt, NumbersFill, ArcFills, Fillable};
 use reading::field::line_end;
@@ -121,11 +123,7 @@ pub(crate) fn fill(
     speeds: &mut [u8],
 )
     requires { ⌜ Fillable intervals (now text) (now fences) (now tails) (now heads) (now lengths) (now speeds) ⌝ }
-    ensures fences { λ _. ⌜ now (fences .exit) ≡ written (networkOf (townOf (now (text .entry))) .fences) (now (fences .entry)) ⌝ }
-    ensures tails { λ _. ⌜ now (tails .exit) ≡ written (networkOf (townOf (now (text .entry))) .tails) (now (tails .entry)) ⌝ }
-    ensures heads { λ _. ⌜ now (heads .exit) ≡ written (networkOf (townOf (now (text .entry))) .heads) (now (heads .entry)) ⌝ }
-    ensures lengths { λ _. ⌜ now (lengths .exit) ≡ written (networkOf (townOf (now (text .entry))) .lengths) (now (lengths .entry)) ⌝ }
-    ensures speeds { λ _. ⌜ now (speeds .exit) ≡ written (networkOf (townOf (now (text .entry))) .speeds) (now (speeds .entry)) ⌝ }
+    ensures { λ _. ⌜ leftTables fences tails heads lengths speeds ≡ holding (networkOf (townOf (now (text .entry)))) (lentTables fences tails heads lengths speeds) ⌝ }
 {
     let mut at = 0;
     let mut fence = 0;

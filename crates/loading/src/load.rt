@@ -3,7 +3,7 @@ ghost use mathlib.Core.Path.{_≡_};
 ghost use mathlib.Core.Bool.{_||_};
 ghost use lib.Dec.{ltb};
 ghost use Rattle.townfile.specs.Load.{lacksRoom, loadAnswer, tablesAfter};
-ghost use Rattle.townfile.specs.Lent.{lentTables};
+ghost use Rattle.townfile.specs.Lent.{lentTables, leftTables};
 ghost use Rattle.loading.specs.Loaded.{readingOf};
 use crate::fill::fill;
 use refusals::refusal::Refusal;
@@ -71,11 +71,7 @@ pub fn load(
     speeds: &mut [u8],
 ) -> Loaded
     ensures answer { λ r. ⌜ readingOf r ≡ loadAnswer (now (text .entry)) (lentTables fences tails heads lengths speeds) ⌝ }
-    ensures fences { λ _. ⌜ now (fences .exit) ≡ tablesAfter (now (text .entry)) (lentTables fences tails heads lengths speeds) .fences ⌝ }
-    ensures tails { λ _. ⌜ now (tails .exit) ≡ tablesAfter (now (text .entry)) (lentTables fences tails heads lengths speeds) .tails ⌝ }
-    ensures heads { λ _. ⌜ now (heads .exit) ≡ tablesAfter (now (text .entry)) (lentTables fences tails heads lengths speeds) .heads ⌝ }
-    ensures lengths { λ _. ⌜ now (lengths .exit) ≡ tablesAfter (now (text .entry)) (lentTables fences tails heads lengths speeds) .lengths ⌝ }
-    ensures speeds { λ _. ⌜ now (speeds .exit) ≡ tablesAfter (now (text .entry)) (lentTables fences tails heads lengths speeds) .speeds ⌝ }
+    ensures tables { λ _. ⌜ leftTables fences tails heads lengths speeds ≡ tablesAfter (now (text .entry)) (lentTables fences tails heads lengths speeds) ⌝ }
 {
     match scan(text) {
         Scanned::Refused { refusal, line } => Loaded::Refused { refusal, line },

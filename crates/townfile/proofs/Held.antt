@@ -13,7 +13,7 @@ use Rattle.model.specs.Rules.{written}
 use Rattle.townfile.specs.FirstFault.{accepted}
 use Rattle.townfile.specs.Grammar.{Bytes, Town, Describes, networkOf}
 use Rattle.townfile.specs.Tables.{townOf}
-use Rattle.townfile.specs.Load.{Counts, counts, Tables, tables, LongEnough, roomyTables, networkAt, countsOfTown, loadAnswer, holding, tablesAfter}
+use Rattle.townfile.specs.Load.{Counts, counts, Tables, LongEnough, roomyTables, networkAt, countsOfTown, loadAnswer, holding, tablesAfter}
 use Rattle.townfile.proofs.Described.{described-town}
 use Rattle.townfile.proofs.Load.{long-fits, described-answer, load-accepts-when-described}
 
@@ -51,11 +51,6 @@ loaded-stands text lent {reply} {held} bytes e are = let found = load-accepts-wh
   where
     go : (T : Town) → Describes text T → reply ≡ countsOfTown T → held ≡ holding (networkOf T) lent → Stands (networkOf (townOf text)) reply held
     go T described counted holds = rw (described-town described, counted, holds) (holding-stands (networkOf T) (described .kept .network-accepted) lent)
-
--- Tables that are equal one by one.
-pub same-tables : {fences tails heads lengths speeds : List ℕ} {held : Tables} → fences ≡ held .fences → tails ≡ held .tails → heads ≡ held .heads → lengths ≡ held .lengths → speeds ≡ held .speeds →
-    tables fences tails heads lengths speeds ≡ held
-same-tables f t h l s = rw (f, t, h, l, s)
 
 -- ---- Room for every town
 

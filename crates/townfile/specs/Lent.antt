@@ -1,4 +1,5 @@
--- The tables that are lent to Load or for what was loaded, by which contracts name them: as a function finds them, and as they were lent.
+-- The tables that are lent to Load or for what was loaded, by which contracts name them: as a function finds them, as they were lent,
+-- and as they are left.
 use Prim.Native.Nat.{ℕ}
 use mathlib.Core.List.{List}
 use denote.Ref.{RefT}
@@ -11,3 +12,6 @@ tablesIn fences tails heads lengths speeds = tables (fences .now) (tails .now) (
 -- For what a function ensures, where a table's name stands for the table at entry and at exit.
 abbrev pub lentTables : {A B C D E : Type 0} → Both (RefT (List ℕ)) A → Both (RefT (List ℕ)) B → Both (RefT (List ℕ)) C → Both (RefT (List ℕ)) D → Both (RefT (List ℕ)) E → Tables
 lentTables fences tails heads lengths speeds = tablesIn (fences .entry) (tails .entry) (heads .entry) (lengths .entry) (speeds .entry)
+
+abbrev pub leftTables : {A B C D E : Type 0} → Both A (RefT (List ℕ)) → Both B (RefT (List ℕ)) → Both C (RefT (List ℕ)) → Both D (RefT (List ℕ)) → Both E (RefT (List ℕ)) → Tables
+leftTables fences tails heads lengths speeds = tablesIn (fences .exit) (tails .exit) (heads .exit) (lengths .exit) (speeds .exit)

@@ -12,7 +12,7 @@ use Rattle.townfile.specs.FirstFault.{accepted}
 use Rattle.townfile.specs.Grammar.{Bytes, networkOf}
 use Rattle.townfile.specs.Tables.{townOf}
 use Rattle.townfile.specs.Load.{Counts, counts, Tables, tables, roomyTables, loadAnswer}
-use Rattle.townfile.proofs.Held.{Stands, loaded-stands, same-tables}
+use Rattle.townfile.proofs.Held.{Stands, loaded-stands}
 use Rattle.cabinet.specs.Host.{hostList}
 use Rattle.cabinet.proofs.HostSteps.{load-refuses, route-refuses, route-arrives}
 use Rattle.cabinet.proofs.host.cabinet_host_question.Statement.{statement}
@@ -43,9 +43,7 @@ held c = let last = c .load .last .1 in tables (last .0) (last .1 .0) (last .1 .
 
 -- the town's network stands at the tables' start
 stands : (c : tie.After-known-told) → Stands (N c) (reply c) (held (loading c))
-stands c =
-    let wrote = loading c .load .ensures .1 in
-    loaded-stands _ _ (bytes (loading c)) (loaded c) (same-tables (wrote .0) (wrote .1 .0) (wrote .1 .1 .0) (wrote .1 .1 .1 .0) (wrote .1 .1 .1 .1))
+stands c = loaded-stands _ _ (bytes (loading c)) (loaded c) (loading c .load .ensures .1)
 
 abbrev told : tie.After-route-in-tables → tie.After-known-told
 told c = c .before .before .before .before .before .before .before

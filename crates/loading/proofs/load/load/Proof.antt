@@ -8,7 +8,7 @@ use Rattle.townfile.specs.FirstFault.{accepted, firstFault}
 use Rattle.townfile.specs.Load.{Tables, tables, countsOf, tooShort}
 use Rattle.scanning.specs.Scans.{readingOf}
 use Rattle.loading.proofs.Fillable.{accepted-fillable}
-use Rattle.loading.proofs.Loaded.{load-refused, load-short, load-filled, table-by-table}
+use Rattle.loading.proofs.Loaded.{load-refused, load-short, load-filled}
 use Rattle.loading.proofs.load.load.Statement.{statement}
 use Rattle.loading.proofs.load.load.Tie as tie
 
@@ -35,22 +35,25 @@ long c = sym (c .before .lacks-room .ensures) ∙ c .if1 .left
 returns : tie.Need-returns
 returns c =
     let told = c .before .before in
-    table-by-table (load-short _ (lent (begun told)) (read told) (sym (c .before .lacks-room .ensures) ∙ c .if1 .taken)) refl refl refl refl refl
+    load-short _ (lent (begun told)) (read told) (sym (c .before .lacks-room .ensures) ∙ c .if1 .taken)
 
 fill-requires : tie.Need-fill-requires
 fill-requires c κs =
     let enough = c .before .before .before .before .before .before in
-    accepted-fillable _ (bytes (enough .before .before)) _ (sym (read (enough .before .before))) (lent (begun (enough .before .before))) (long enough)
+    let told = enough .before .before in
+    accepted-fillable _ (bytes told) _ (sym (read told)) (lent (begun told)) (long enough)
 
 returns-2 : tie.Need-returns-2
-returns-2 c = table-by-table (load-refused _ (lent (start (c .before .before .before))) (ap readingOf (sym (c .before .refusal .given .1)) ∙ c .before .before .before .scan .ensures)) refl refl refl refl refl
+returns-2 c =
+    let scanned = c .before .before .before in
+    load-refused _ (lent (start scanned)) (ap readingOf (sym (c .before .refusal .given .1)) ∙ scanned .scan .ensures)
 
 returns-3 : tie.Need-returns-3
 returns-3 c =
     let filled = c .before .before .before .before .before .before .before .before .before .before in
     let enough = filled .before .before .before .before .before .before .before in
-    let wrote = filled .fill .ensures in
-    table-by-table (load-filled _ (lent (begun (enough .before .before))) (read (enough .before .before)) (long enough)) (wrote .0) (wrote .1 .0) (wrote .1 .1 .0) (wrote .1 .1 .1 .0) (wrote .1 .1 .1 .1)
+    let ends = load-filled _ (lent (begun (enough .before .before))) (read (enough .before .before)) (long enough) in
+    (ends .0, filled .fill .ensures ∙ ends .1)
 
 pub load-spec : {M : Type 1} → statement M
 load-spec =

@@ -4,7 +4,6 @@ use mathlib.Core.Path.{_≡_, sym, ap, _∙_}
 use denote.Ref.{now}
 use Rattle.townfile.specs.Grammar.{Bytes}
 use Rattle.townfile.specs.Load.{counts, Tables, tables}
-use Rattle.townfile.proofs.Held.{same-tables}
 use Rattle.loading.specs.Loaded.{readingOf}
 use Rattle.loading.specs.declared.load.Loaded.the-variants.{Counts}
 use Rattle.printing.proofs.Towns.{TownLoaded, town-refused, town-loaded}
@@ -22,14 +21,14 @@ abbrev held : tie.After-load → Tables
 held c = let last = c .load .last .1 in tables (last .0) (last .1 .0) (last .1 .1 .0) (last .1 .1 .1 .0) (last .1 .1 .1 .1 .0)
 
 -- the tables after Load
-loaded : (c : tie.After-load) {j i a : ℕ} → c .load .result ≡ Counts j i a → TownLoaded (now (begun c .args .text)) (bytes c) (begun c .args .source) (begun c .args .departure) (counts j i a) (held c)
-loaded c told =
-    let wrote = c .load .ensures .1 in
-    town-loaded _ (bytes c) _ _ (ap readingOf (sym told) ∙ c .load .ensures .0) (same-tables (wrote .0) (wrote .1 .0) (wrote .1 .1 .0) (wrote .1 .1 .1 .0) (wrote .1 .1 .1 .1))
+loaded : (c : tie.After-load) {j i a : ℕ} → c .load .result ≡ Counts j i a →
+    TownLoaded (now (begun c .args .text)) (bytes c) (begun c .args .source) (begun c .args .departure) (counts j i a) (held c)
+loaded c told = town-loaded _ (bytes c) _ _ (ap readingOf (sym told) ∙ c .load .ensures .0) (c .load .ensures .1)
 
 loaded-arrivals-requires : tie.Need-loaded-arrivals-requires
 loaded-arrivals-requires c κs =
-    let town = loaded (c .before .before .before .before .before .before .before .before .before .before .before .before .before .before) (c .before .before .before .before .before .before .before .junctions .given .1) in
+    let counted = c .before .before .before .before .before .before .before in
+    let town = loaded (counted .before .before .before .before .before .before .before) (counted .junctions .given .1) in
     (town .long, town .checked)
 
 returns : tie.Need-returns
@@ -38,7 +37,10 @@ returns c =
     rw (town-refused _ (bytes called) _ _ (ap readingOf (sym (c .before .before .before .refusal .given .1)) ∙ called .load .ensures .0)) (c .refuse .ensures)
 
 returns-2 : tie.Need-returns-2
-returns-2 c = rw (loaded (c .before .before .before .before .before .before .before .before .before .before .before .before .before .before .before) (c .before .before .before .before .before .before .before .before .junctions .given .1) .answers) (c .loaded-arrivals .ensures)
+returns-2 c =
+    let counted = c .before .before .before .before .before .before .before .before in
+    let town = loaded (counted .before .before .before .before .before .before .before) (counted .junctions .given .1) in
+    rw (town .answers) (c .loaded-arrivals .ensures)
 
 pub town-arrivals-spec : {M : Type 1} → statement M
 town-arrivals-spec =

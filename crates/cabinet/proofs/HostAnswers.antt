@@ -7,7 +7,7 @@ use mathlib.Core.Bool.{false}
 use mathlib.Core.List.{List, _++_}
 use mathlib.Core.Logic.{_⊎_, inl, inr}
 use native.Mathlib.Omega.{arith}
-use lib.ListN.{getD, take}
+use lib.ListN.{length, getD, take}
 use borrow.Author.Tests.{not-false, ltb-true, eqb-false}
 use Rattle.model.specs.Ticks.{day, last, never}
 use Rattle.model.specs.Limits.{maxJunctions}
@@ -15,6 +15,7 @@ use Rattle.model.specs.Network.{Network, Accepted, netOf}
 use Rattle.model.specs.NetworkRules.{networkRules, networkCheck}
 use Rattle.model.specs.Walks.{Net, Arrives, start, along}
 use Rattle.model.specs.Demands.{label}
+use Rattle.model.specs.Routes.{routeOf}
 use Rattle.refusals.specs.Refusals.{refusalBase}
 use Rattle.model.specs.Rules.{Outcome, refused, replied, Rule, _if_, AllKept}
 use Rattle.model.proofs.Demands.{demand-2}
@@ -30,7 +31,7 @@ use Rattle.townfile.specs.declared.progress.Progress.{Progress}
 use Rattle.townfile.proofs.Described.{described-town, faultless-described}
 use Rattle.townfile.proofs.FaultNumbers.{Fault, text-fault}
 use Rattle.townfile.proofs.Held.{zeros-long, town-loads}
-use Rattle.cabinet.specs.Host.{hostList, afterRoute, hostAnswer, HostRefusal, HostRefusesOnly, HostHasRoom, EarliestAt, Answers, HostAnswersEarliest}
+use Rattle.cabinet.specs.Host.{hostList, afterRoute, labelOrCode, hostAnswer, HostRefusal, HostRefusesOnly, HostHasRoom, EarliestAt, Answers, HostAnswersEarliest}
 
 -- A text describes a town, or Load refuses it for a fault.
 loads : (text : List ℕ) → Bytes text → ((T : Town) × Describes text T) ⊎ ((number : ℕ) × (line : ℕ) × (loadAnswer text roomyTables ≡ refusedAt number line) × Fault number)
@@ -69,13 +70,18 @@ module _ (N : Network) (kept : Accepted N) (source departure destination : ℕ) 
   answered-routable : (count : ℕ) → answer ≡ replied count → Routable N source departure destination hostList
   answered-routable count e = route-replies-when-routable N source departure destination hostList count .0 e .0
 
+  -- The list has room for every route.
+  route-found : source < N .junctions → departure < day → destination < N .junctions → (arrival ≡ never → ⊥) → answer ≡ replied (length (routeOf (netOf N) source departure destination))
+  route-found source-below departure-below destination-below reached =
+      room-for-every-route N source departure destination hostList kept source-below departure-below destination-below reached (zeros-long maxJunctions (omega arith))
+
   earliest-answered : source < N .junctions → departure < day → destination < N .junctions → {tick : ℕ} → EarliestAt (netOf N) source departure destination tick → afterRoute answer arrival ≡ tick
   earliest-answered source-below departure-below destination-below {tick} earliest =
       let d = demand-2 N kept source departure source-below departure-below in
       let reached : arrival ≡ never → ⊥ = λ e. d .unreached destination tick e (earliest .attained) in
       let sooner = d .no-sooner destination tick (earliest .attained) in
       let later = earliest .no-sooner arrival (d .attained destination destination-below reached) in
-      rw (room-for-every-route N source departure destination hostList kept source-below departure-below destination-below reached (zeros-long maxJunctions (omega arith))) (omega (arith, sooner, later))
+      rw (route-found source-below departure-below destination-below reached) (omega (arith, sooner, later))
 
   -- Of the rules behind the network's, the last is never broken.
   abbrev rules : List Rule
@@ -91,7 +97,7 @@ module _ (N : Network) (kept : Accepted N) (source departure destination : ℕ) 
       let departure-below = ltb-true departure day (not-false _ (before .1 .0)) in
       let destination-below = ltb-true destination (N .junctions) (not-false _ (before .1 .1 .0)) in
       let reached = eqb-false arrival never (before .1 .1 .1 .0) in
-      let replies = room-for-every-route N source departure destination hostList kept source-below departure-below destination-below reached (zeros-long maxJunctions (omega arith)) in
+      let replies = route-found source-below departure-below destination-below reached in
       absurd (let z : _≡_ {A = ℕ} 0 1 = cc in omega arith)
   rule-refusal (suc (suc (suc (suc (suc k))))) h before e r = absurd (omega arith)
 
@@ -108,8 +114,7 @@ module _ (N : Network) (kept : Accepted N) (source departure destination : ℕ) 
 -- ---- The host's answer
 
 module _ (text : List ℕ) (source departure destination : ℕ) where
-  described-answers : {T : Town} → Describes text T →
-      hostAnswer text source departure destination ≡ afterRoute (routeAnswer (networkOf T) source departure destination hostList) (label (networkOf T) source departure destination)
+  described-answers : {T : Town} → Describes text T → hostAnswer text source departure destination ≡ labelOrCode (networkOf T) source departure destination
   unfolding hostAnswer
   described-answers described = rw (town-loads described, described-town described)
 
@@ -169,7 +174,7 @@ host-answers-earliest text bytes source departure destination tick = (forward, b
     back : Answers text source departure destination tick → (hostAnswer text source departure destination ≡ tick) × (tick < refusalBase)
     back a =
         let N = networkOf (a .town) in
-        let early : departure ≤ last = omega (arith, a .departure-below) in (
-          described-answers text source departure destination (a .described) ∙ earliest-answered N (a .described .kept .network-accepted) source departure destination (a .source-below) (a .departure-below) (a .destination-below) (a .earliest),
-          omega (arith, arrives-by-last early (a .earliest .attained)),
-        )
+        let kept = a .described .kept .network-accepted in
+        let early : departure ≤ last = omega (arith, a .departure-below) in
+        let is-tick = earliest-answered N kept source departure destination (a .source-below) (a .departure-below) (a .destination-below) (a .earliest) in
+        (described-answers text source departure destination (a .described) ∙ is-tick, omega (arith, arrives-by-last early (a .earliest .attained)))

@@ -8,7 +8,7 @@ use mathlib.Core.Logic.{_↔_}
 use lib.ListN.{replicate}
 use Rattle.model.specs.Limits.{maxJunctions}
 use Rattle.model.specs.Ticks.{day}
-use Rattle.model.specs.Network.{netOf}
+use Rattle.model.specs.Network.{Network, netOf}
 use Rattle.model.specs.Walks.{Net, Arrives, ArrivesWaiting}
 use Rattle.model.specs.Demands.{label}
 use Rattle.refusals.specs.Refusals.{refusalBase}
@@ -23,15 +23,6 @@ use Rattle.townfile.specs.Load.{Counts, roomyTables, loadAnswer}
 abbrev pub hostList : List ℕ
 hostList = replicate maxJunctions 0
 
--- The number of the refusal that a step ends in. No refusal has number 0.
-abbrev pub loadNumber : Reading Counts → ℕ
-loadNumber (refusedAt number line) = number
-loadNumber (accepted counts) = 0
-
-abbrev pub routeNumber : Outcome ℕ → ℕ
-routeNumber (refused number) = number
-routeNumber (replied count) = 0
-
 -- The steps, each a refusal's code or what follows.
 abbrev pub afterLoad : Reading Counts → ℕ → ℕ
 afterLoad (refusedAt number line) next = refusalBase + number
@@ -41,10 +32,12 @@ abbrev pub afterRoute : Outcome ℕ → ℕ → ℕ
 afterRoute (refused number) next = refusalBase + number
 afterRoute (replied count) next = next
 
+-- "Answers as Route with enough space for the route."
+abbrev pub labelOrCode : Network → ℕ → ℕ → ℕ → ℕ
+labelOrCode N source departure destination = afterRoute (routeAnswer N source departure destination hostList) (label N source departure destination)
+
 unfoldable pub hostAnswer : List ℕ → ℕ → ℕ → ℕ → ℕ
-hostAnswer text source departure destination =
-    let N = networkOf (townOf text) in
-    afterLoad (loadAnswer text roomyTables) (afterRoute (routeAnswer N source departure destination hostList) (label N source departure destination))
+hostAnswer text source departure destination = afterLoad (loadAnswer text roomyTables) (labelOrCode (networkOf (townOf text)) source departure destination)
 
 -- ---- What is proved of it
 

@@ -65,7 +65,71 @@ fn print_route(answer: Routed) {
     }
 }
 
-// Document 004's Table 1 network: o, a, b, c, d as 0 to 4. After the labels comes the route to d, and a list of three.
+fn print_labels_of_5(
+    fences: &[u32],
+    tails: &[u16],
+    heads: &[u16],
+    lengths: &[u32],
+    speeds: &[u8],
+    departure: u32,
+) {
+    let mut earliest = [0u32; 5];
+    let mut predecessors = [0u16; 5];
+    match labels(
+        5,
+        fences,
+        tails,
+        heads,
+        lengths,
+        speeds,
+        0,
+        Tick { number: departure },
+        &mut earliest,
+        &mut predecessors,
+    ) {
+        Labelled::Written => {
+            print_label(earliest[0], predecessors[0]);
+            print_label(earliest[1], predecessors[1]);
+            print_label(earliest[2], predecessors[2]);
+            print_label(earliest[3], predecessors[3]);
+            print_label(earliest[4], predecessors[4]);
+        }
+        Labelled::Refused(refusal) => {
+            io::write_all(STDOUT_FILENO, b" refused ");
+            io::print_decimal(STDOUT_FILENO, refusal.number() as u64);
+        }
+    }
+}
+
+// The route from the first of five junctions to the last, and a list of three.
+fn print_route_of_5(
+    fences: &[u32],
+    tails: &[u16],
+    heads: &[u16],
+    lengths: &[u32],
+    speeds: &[u8],
+    departure: u32,
+) {
+    let mut arcs = [9u16; 3];
+    print_route(route(
+        5,
+        fences,
+        tails,
+        heads,
+        lengths,
+        speeds,
+        0,
+        Tick { number: departure },
+        4,
+        &mut arcs,
+    ));
+    io::write_all(STDOUT_FILENO, b", list");
+    print_entry(arcs[0]);
+    print_entry(arcs[1]);
+    print_entry(arcs[2]);
+}
+
+// Document 004's Table 1 network: o, a, b, c, d as 0 to 4. After the labels comes the route to d.
 fn print_table_1(departure: u32) {
     let fences = [
         0u32,
@@ -146,53 +210,12 @@ fn print_table_1(departure: u32) {
         40,
         40,
     ];
-    let mut earliest = [0u32; 5];
-    let mut predecessors = [0u16; 5];
     io::write_all(STDOUT_FILENO, b"Table 1 from ");
     io::print_decimal(STDOUT_FILENO, departure as u64);
     io::write_all(STDOUT_FILENO, b":");
-    match labels(
-        5,
-        &fences,
-        &tails,
-        &heads,
-        &lengths,
-        &speeds,
-        0,
-        Tick { number: departure },
-        &mut earliest,
-        &mut predecessors,
-    ) {
-        Labelled::Written => {
-            print_label(earliest[0], predecessors[0]);
-            print_label(earliest[1], predecessors[1]);
-            print_label(earliest[2], predecessors[2]);
-            print_label(earliest[3], predecessors[3]);
-            print_label(earliest[4], predecessors[4]);
-        }
-        Labelled::Refused(refusal) => {
-            io::write_all(STDOUT_FILENO, b" refused ");
-            io::print_decimal(STDOUT_FILENO, refusal.number() as u64);
-        }
-    }
-    let mut arcs = [9u16; 3];
+    print_labels_of_5(&fences, &tails, &heads, &lengths, &speeds, departure);
     io::write_all(STDOUT_FILENO, b"; route:");
-    print_route(route(
-        5,
-        &fences,
-        &tails,
-        &heads,
-        &lengths,
-        &speeds,
-        0,
-        Tick { number: departure },
-        4,
-        &mut arcs,
-    ));
-    io::write_all(STDOUT_FILENO, b", list");
-    print_entry(arcs[0]);
-    print_entry(arcs[1]);
-    print_entry(arcs[2]);
+    print_route_of_5(&fences, &tails, &heads, &lengths, &speeds, departure);
     io::write_all(STDOUT_FILENO, b"\n");
 }
 

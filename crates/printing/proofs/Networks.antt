@@ -64,6 +64,9 @@ module _ (N : Network) (source departure : ℕ) (checked : networkCheck N ≡ re
   pub few-junctions : N .junctions ≤ 200
   few-junctions = keeps .junctions-fit
 
+  predecessor-short : (labels : List ℕ) (j : ℕ) → length (numberUnless noArc (predecessorOf (netOf N) source labels j)) ≤ 3
+  predecessor-short labels j = short-arc (predecessorOf (netOf N) source labels j) (arcs N) (keeps .arcs-fit) (predecessor-below (netOf N) source labels j)
+
   pub table-fits : TableFits (labelsOf (netOf N) source departure) (predecessorsOf (netOf N) source departure)
   unfolding labelsOf predecessorsOf
   table-fits =
@@ -73,13 +76,17 @@ module _ (N : Network) (source departure : ℕ) (checked : networkCheck N ≡ re
       record {
         same-length = length-tabulate predecessor 0 (N .junctions) ∙ sym many;
         few = omega (arith, many, few-junctions);
-        short = λ j h. rw (getD-tabulate predecessor 0 (N .junctions) j 0 (omega (arith, many))) (short-arc (predecessor (0 + j)) (arcs N) (keeps .arcs-fit) (predecessor-below (netOf N) source labels (0 + j)));
+        short = λ j h. rw (getD-tabulate predecessor 0 (N .junctions) j 0 (omega (arith, many))) (predecessor-short labels (0 + j));
       }
 
   module _ (labels predecessors : List ℕ) (labels-long : length labels ≡ N .junctions) (predecessors-long : length predecessors ≡ N .junctions) where
     start-only : labelsAnswer N source departure labels predecessors ≡ firstBroken (startRules N source departure) tt
     unfolding labelsAnswer firstBroken
-    start-only = kept-before (networkRules N) (startRules N source departure ++ bufferRules N labels predecessors) tt (accepted-kept N keeps) ∙ rw (eq-eqb (length labels) (N .junctions) labels-long, eq-eqb (length predecessors) (N .junctions) predecessors-long)
+    start-only =
+        let network-kept = kept-before (networkRules N) (startRules N source departure ++ bufferRules N labels predecessors) tt (accepted-kept N keeps) in
+        let labels-kept = eq-eqb (length labels) (N .junctions) labels-long in
+        let predecessors-kept = eq-eqb (length predecessors) (N .junctions) predecessors-long in
+        network-kept ∙ rw (labels-kept, predecessors-kept)
 
     pub answer-refused : {number : ℕ} → refused number ≡ labelsAnswer N source departure labels predecessors → networkAnswer N source departure ≡ refusedAt number 0
     unfolding networkAnswer

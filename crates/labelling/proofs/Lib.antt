@@ -2,7 +2,6 @@ pub mod Demand3
 pub mod Filled
 pub mod LabelRules
 pub mod Linking
-pub mod Matches
 pub mod Offered
 pub mod Queue
 pub mod Settling

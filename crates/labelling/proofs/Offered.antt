@@ -10,7 +10,7 @@ use lib.ListN.{getD, set}
 use borrow.Author.Tests.{le-leb, lt-leb, lt-ltb, le-ltb, eq-eqb, ne-eqb}
 use Rattle.model.specs.Ticks.{last, never, tick?}
 use Rattle.labelling.specs.code.Labelling.{labelOf, lowered, taken, Rekeyed}
-use Rattle.labelling.specs.code.Tournament.{Entered, keyOf}
+use Rattle.tournament.specs.Tournament.{Entered, keyOf}
 
 -- An arrival that is by the last tick or never is its own label.
 pub label-of-tick : (t : ℕ) → (t ≤ last) ⊎ (t ≡ never) → labelOf (tick? t) ≡ t

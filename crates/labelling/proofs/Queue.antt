@@ -14,8 +14,8 @@ use borrow.Author.Tests.{lt-ltb}
 use Rattle.model.specs.Ticks.{last, never}
 use Rattle.model.proofs.Tests.{ltb-cases}
 use Rattle.labelling.specs.code.Labelling.{lowered, Rekeyed}
-use Rattle.labelling.specs.code.Tournament.{leaf, Tournament, Least, Entered, keyOf, junctionOf}
-use Rattle.labelling.proofs.Matches.{equal-keys}
+use Rattle.tournament.specs.Tournament.{leaf, Tournament, Least, Entered, keyOf, junctionOf}
+use Rattle.tournament.proofs.Matches.{equal-keys}
 use Rattle.labelling.proofs.Settling.{by-flag}
 
 -- The key with which a junction stands in the tournament: never where it is settled or unreached.
@@ -33,6 +33,10 @@ pub record Nearest (labels : List ℕ) (settled : List Bool) (junction : ℕ) : 
   pub reached : getD labels junction never < never
   pub least : (k : ℕ) → k < length labels → getD settled k false ≡ false → getD labels junction never ≤ getD labels k never
 
+-- Every label that is not never is by the last tick.
+abbrev pub ByLast : List ℕ → Type 0
+ByLast labels = (k : ℕ) → k < length labels → getD labels k never < never → getD labels k never ≤ last
+
 -- ---- The least key
 
 module _ (labels : List ℕ) (settled : List Bool) (j : ℕ) where
@@ -49,19 +53,23 @@ module _ {tree labels : List ℕ} {settled : List Bool} (q : Queued tree labels 
   no-less : (k : ℕ) → k < 256 → getD settled k false ≡ false → getD labels k never < never → key ≤ keyOf (getD labels k never) k
   no-less k h waits reached = omega (arith, l .no-lower k h, q .leaf-is k h, key-waiting labels settled k waits reached)
 
-  -- A key below never is that of a junction which waits.
-  pub least-is-nearest : key < never → {junction : ℕ} → junction ≡ junctionOf key → Nearest labels settled junction
-  least-is-nearest some {junction} of-key =
+  -- A key below never is that of a junction which waits. Of labels that are ticks, the lesser key is that of the lesser label.
+  pub least-is-nearest : key < never → ByLast labels → {junction : ℕ} → junction ≡ junctionOf key → Nearest labels settled junction
+  least-is-nearest some by-last {junction} of-key =
       ⊎-elim
       (λ w.
       let holds : key ≡ keyOf (getD labels holder never) holder = sym (l .held) ∙ leaf-is ∙ key-waiting labels settled holder (w .0) (w .1) in
       let is-holder : junction ≡ holder = omega (arith, l .holder-inside) in
+      let inside : holder < length labels =
+      by-cases (decLt holder (length labels)) (λ h. h) (λ outside. absurd (omega (arith, w .1, unlabelled (omega arith)))) in
       rw is-holder (record {
-        inside = by-cases (decLt holder (length labels)) (λ h. h) (λ outside. absurd (omega (arith, w .1, unlabelled (omega arith))));
+        inside = inside;
         unsettled = w .0;
         reached = w .1;
         least = λ k h waits.
-            by-cases (decLt (getD labels k never) never) (λ reached. omega (arith, no-less k (omega arith) waits reached)) (λ unreached. omega (arith, w .1));
+            by-cases (decLt (getD labels k never) never)
+            (λ reached. omega (arith, no-less k (omega arith) waits reached, by-last k h reached, by-last holder inside (w .1)))
+            (λ unreached. omega (arith, w .1));
       }))
       (λ none. absurd (omega (arith, l .held, leaf-is, none)))
       (waiting-or-never labels settled holder)
@@ -76,8 +84,7 @@ module _ {tree labels : List ℕ} {settled : List Bool} (q : Queued tree labels 
       unlabelled h = List·getD-eq-default labels never {n = holder} h
 
   -- Labels are ticks, whose keys lie below never.
-  pub none-waits : never ≤ key → ((k : ℕ) → k < length labels → getD labels k never < never → getD labels k never ≤ last) →
-      (k : ℕ) → k < length labels → getD settled k false ≡ false → never ≤ getD labels k never
+  pub none-waits : never ≤ key → ByLast labels → (k : ℕ) → k < length labels → getD settled k false ≡ false → never ≤ getD labels k never
   none-waits none by-last k h waits =
       by-cases (decLt (getD labels k never) never)
       (λ reached. absurd (omega (arith, no-less k (omega arith) waits reached, by-last k h reached)))

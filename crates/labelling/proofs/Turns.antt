@@ -23,10 +23,10 @@ use Rattle.model.proofs.Tests.{ltb-cases, eqb-cases}
 use Rattle.driving.specs.ArcKept.{ArcKept}
 use Rattle.labelling.specs.code.Labelling.{arcFrom, Linked, lowered, taken, Rekeyed, Offerable}
 use Rattle.labelling.specs.Labels.{Labelable}
-use Rattle.labelling.specs.code.Tournament.{Least, Entered, keyOf}
+use Rattle.tournament.specs.Tournament.{Least, Entered, keyOf}
 use Rattle.checking.proofs.Flags.{true-not-false}
 use Rattle.labelling.proofs.Linking.{arc-from, arc-from-least}
-use Rattle.labelling.proofs.Queue.{Queued, Nearest, none-waits, queued-starts, queued-settles, queued-lowers, queued-offered}
+use Rattle.labelling.proofs.Queue.{Queued, Nearest, ByLast, none-waits, queued-starts, queued-settles, queued-lowers, queued-offered}
 use Rattle.labelling.proofs.Settling.{Settling, settling-starts, labels-at-most-never, reached-by-last, settling-weakens, settle, settled-label-stays, offer-keeps, offer-skips, offer-lowers, offer-ties, settling-ends}
 
 -- ---- The arc that an offer drives
@@ -88,14 +88,17 @@ module _ {N : Network} {source departure : ℕ} {labels₀ predecessors₀ : Lis
     fences-reached = omega arith;
   }
 
+  pub labels-by-last : {settled : List Bool} {reached : ℕ} {labels predecessors tree : List ℕ} →
+      Round N source departure settled reached labels predecessors tree → ByLast labels
+  labels-by-last r k h = reached-by-last (r .settling) (accepted-sound N (q .taken .accepted)) k (omega (arith, r .settling .labels-long))
+
   pub round-ends : {settled : List Bool} {reached key : ℕ} {labels predecessors tree : List ℕ} →
       Round N source departure settled reached labels predecessors tree → Least tree key → never ≤ key →
       (labels ≡ labelsOf (netOf N) source departure) × (predecessors ≡ predecessorsOf (netOf N) source departure)
   round-ends {labels} r least none =
       let long : length labels ≡ N .junctions = r .settling .labels-long in
       settling-ends (r .settling) (accepted-sound N (q .taken .accepted))
-      (λ k h. none-waits (r .queued) (omega (arith, q .taken .accepted .junctions-fit)) least none
-      (λ k h. reached-by-last (r .settling) (accepted-sound N (q .taken .accepted)) k (omega arith)) k (omega arith))
+      (λ k h. none-waits (r .queued) (omega (arith, q .taken .accepted .junctions-fit)) least none (labels-by-last r) k (omega arith))
       (λ b h e. e)
       (q .taken .source-below)
 

@@ -9,11 +9,6 @@ ghost use Rattle.model.specs.Network.{netOf};
 ghost use Rattle.model.specs.Lent.{lentNetwork, networkIn};
 ghost use Rattle.labelling.specs.Labels.{Labelable};
 ghost use Rattle.labelling.specs.code.Labelling.{Linked, Offerable, Rekeyed, arrivalOn, labelOf, lowered, taken};
-use crate::tournament::NODES;
-use crate::tournament::enter;
-use crate::tournament::junction_of;
-use crate::tournament::key_of;
-use crate::tournament::least_key;
 use driving::drive::drive;
 use driving::drive::fences_passed;
 use model::label::NO_ARC;
@@ -21,6 +16,11 @@ use model::label::UNREACHED;
 use model::limit::MAX_ARCS;
 use model::limit::MAX_JUNCTIONS;
 use model::tick::Arrival;
+use tournament::tree::NODES;
+use tournament::tree::enter;
+use tournament::tree::junction_of;
+use tournament::tree::key_of;
+use tournament::tree::least_key;
 
 // Marks every junction as unreached.
 fn clear(labels: &mut [u32], predecessors: &mut [u16])

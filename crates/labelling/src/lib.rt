@@ -2,4 +2,3 @@
 // the order of the numbers, and otherwise labels. It asks nothing of its caller.
 mod labelling;
 pub mod labels;
-mod tournament;

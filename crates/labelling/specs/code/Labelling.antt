@@ -13,7 +13,7 @@ use Rattle.model.specs.Flow.{spansOf, arrival}
 use Rattle.model.specs.Intervals.{speedAt}
 use Rattle.model.specs.Network.{arcSpeeds}
 use Rattle.driving.specs.ArcKept.{ArcKept}
-use Rattle.labelling.specs.code.Tournament.{Tournament, Entered, keyOf}
+use Rattle.tournament.specs.Tournament.{Tournament, Entered, keyOf}
 
 -- ---- The arcs of a tail
 

@@ -16,9 +16,9 @@ use Rattle.model.specs.Network.{network, speedOn, driveOf}
 use Rattle.model.proofs.IntervalPieces.{some-passed}
 use Rattle.model.proofs.Passed.{passed-drop}
 use Rattle.labelling.specs.code.Labelling.{Linked}
-use Rattle.labelling.proofs.Matches.{equal-keys}
+use Rattle.tournament.proofs.Matches.{equal-keys}
 use Rattle.labelling.proofs.Queue.{Nearest, least-is-nearest}
-use Rattle.labelling.proofs.Turns.{waiting, waiting-falls, Round, round-starts, round-ends, still-reached, Turn, turn-starts, turn-offerable, turn-skips, turn-offers, next-higher, turn-ends}
+use Rattle.labelling.proofs.Turns.{waiting, waiting-falls, Round, round-starts, labels-by-last, round-ends, still-reached, Turn, turn-starts, turn-offerable, turn-skips, turn-offers, next-higher, turn-ends}
 use Rattle.labelling.proofs.labelling.label_all.Statement.{statement}
 use Rattle.labelling.proofs.labelling.label_all.Tie as tie
 
@@ -59,8 +59,9 @@ nearest c =
     let r = at-loop c .loop .inv .1 in
     least-is-nearest (r .queued)
     (omega (arith, r .settling .labels-long, start-of (at-loop c) .pre .taken .accepted .junctions-fit))
-    (c .before .before .least-key .ensures)
+    (c .before .before .least-key .ensures (r .queued .tournament))
     (omega (arith, c .before .before .least-key .ok, c .before .if1 .left))
+    (labels-by-last (start-of (at-loop c) .pre) r)
     (c .junction-of .ensures)
 
 below : (c : tie.After-junction-of Inv-loop2 μ-loop2 Inv-loop μ-loop) → c .junction-of .result < 200
@@ -111,12 +112,6 @@ link-arcs-requires c κs =
     let a = start (c .before .before .before .before .before .before) .pre .taken .accepted in
     (a .arcs-fit, ((λ b h. omega (arith, a .tail-below b h, a .junctions-fit)), (refl, refl)))
 
-key-of-requires : tie.Need-key-of-requires Inv-loop2 μ-loop2 Inv-loop μ-loop
-key-of-requires c κs = let s = start (cleared (c .before)) in (omega (arith, s .pre .taken .departure-below), source-known s)
-
-enter-requires : tie.Need-enter-requires Inv-loop2 μ-loop2 Inv-loop μ-loop
-enter-requires c κs = (equal-keys never, source-known (start (cleared (c .before .before))))
-
 loop-holds : tie.Need-loop-holds Inv-loop2 μ-loop2 Inv-loop μ-loop
 loop-holds c =
     let l = c .before .before .before in
@@ -127,17 +122,11 @@ loop-holds c =
           (ap (λ labels. set labels (s .args .source) (s .args .departure)) (clear .0 ∙ ap (λ n. replicate n never) (s .pre .labels-long)))
           (clear .1 ∙ ap (λ n. replicate n noArc) (s .pre .labels-long))
           (c .before .key-of .ensures)
-          (c .enter .ensures),
+          (c .enter .ensures (equal-keys never) (omega (arith, source-known s))),
     )
-
-least-key-requires : tie.Need-least-key-requires Inv-loop2 μ-loop2 Inv-loop μ-loop
-least-key-requires c κs = c .before .loop .inv .1 .queued .tournament
 
 array-write-settled : tie.Need-array-write-settled Inv-loop2 μ-loop2 Inv-loop μ-loop
 array-write-settled c = omega (arith, below c)
-
-enter-requires-2 : tie.Need-enter-requires-2 Inv-loop2 μ-loop2 Inv-loop μ-loop
-enter-requires-2 c κs = (at-loop (c .before) .loop .inv .1 .queued .tournament, below (c .before))
 
 mul-tick : tie.Need-mul-tick Inv-loop2 μ-loop2 Inv-loop μ-loop
 mul-tick c = omega (arith, below (c .before .before))
@@ -159,7 +148,7 @@ loop2-holds c =
     let j = junction-at c in
     let (linked, round) = at-loop j .loop .inv in (
       linked,
-      turn-starts (start-of (at-loop j) .pre) round (nearest j) (c .before .before .enter2 .ensures) linked
+      turn-starts (start-of (at-loop j) .pre) round (nearest j) (c .before .before .enter2 .ensures (round .queued .tournament) (omega (arith, below j))) linked
           (omega (arith, interval-known c, passed-are c)),
     )
 
@@ -225,7 +214,7 @@ same-length-2 : tie.Need-same-length-2 Inv-loop2 μ-loop2 Inv-loop μ-loop
 same-length-2 c = c .before .before .before .loop .inv .1 .settling .predecessors-long ∙ sym (start-of (c .before .before .before) .pre .predecessors-long)
 
 returns : tie.Need-returns Inv-loop2 μ-loop2 Inv-loop μ-loop
-returns c = round-ends (start-of (c .before .before .before) .pre) (c .before .before .before .loop .inv .1) (c .before .least-key .ensures) (omega (arith, c .if1 .taken))
+returns c = round-ends (start-of (c .before .before .before) .pre) (c .before .before .before .loop .inv .1) (c .before .least-key .ensures (c .before .before .before .loop .inv .1 .queued .tournament)) (omega (arith, c .if1 .taken))
 
 pub label-all-spec : {M : Type 1} → statement M
 label-all-spec =
@@ -239,13 +228,13 @@ label-all-spec =
     mul-labels
     slice-write-labels
     link-arcs-requires
-    key-of-requires
-    enter-requires
+    (λ c κs. search needs)
+    (λ c κs. search needs)
     loop-holds
-    least-key-requires
+    (λ c κs. search needs)
     (λ c κs. search needs)
     array-write-settled
-    enter-requires-2
+    (λ c κs. search needs)
     mul-tick
     slice-read-tick
     (λ c κs. search needs)

@@ -35,21 +35,14 @@ arrival-is c =
 reached : (c : tie.Else2) → c .before .before .before .label-of .result < never
 reached c = omega (arith, c .before .before .before .label-of .ok, c .if2 .left)
 
--- an arrival below a label is by the last tick
-key-of-requires : tie.Need-key-of-requires
-key-of-requires c κs =
-    let a = c .before .before .before in
-    let is = arrival-is a in
-    let label-fits = c .before .before .slice-known3 .given (start a .args .head) in
-    (⊎-elim (λ h. omega (arith, h)) (λ e. absurd (omega (arith, e))) (in-time a), start a .pre .is-junction)
-
 returns : tie.Need-returns
 returns c =
     let lowers = c .before .before .before in
     let a = lowers .before .before in
     let s = start a in
     leaves-lower (now (s .args .labels)) (now (s .args .predecessors)) (now (s .args .tree)) (s .args .head) (s .args .a)
-    (arrival-is a) (lowers .if1 .taken) (c .before .key-of .ensures) (c .enter .ensures)
+    (arrival-is a) (lowers .if1 .taken) (c .before .key-of .ensures)
+    (c .enter .ensures (s .pre .tournament) (omega (arith, s .pre .is-junction)))
 
 returns-2 : tie.Need-returns-2
 returns-2 c = leaves-unreached _ _ _ _ _ (arrival-is (c .before .before .before)) (c .before .if1 .left) (c .if2 .taken)
@@ -84,7 +77,7 @@ offer-spec =
     (λ c. search needs)
     (λ c. search needs)
     (λ c. search needs)
-    key-of-requires
+    (λ c κs. search needs)
     (λ c κs. search needs)
     (λ c. search needs)
     (λ c. search needs)

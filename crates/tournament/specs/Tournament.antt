@@ -1,4 +1,4 @@
--- A tournament of keys: what its functions keep and answer, for their contracts inside the crate.
+-- A tournament of keys: what its functions keep and answer.
 use Prim.Native.Nat.{ℕ, _+_, _*_, _%_, _≤_, _<_, min}
 use mathlib.Core.Path.{_≡_}
 use mathlib.Core.List.{List}
@@ -33,9 +33,10 @@ pub record Entered (before : List ℕ) (junction key : ℕ) (after : List ℕ) :
   pub is-set : leaf after junction ≡ key
   pub others-stay : (j : ℕ) → j < leaves → (j ≡ junction → ⊥) → leaf after j ≡ leaf before j
 
--- The key of a junction that is reached, and the junction of a key.
+-- The key of a junction that is reached, and the junction of a key. Labels below 2^24 = 16,777,216, as every tick is, have keys of their
+-- own, and so have the junctions of the leaves.
 abbrev pub keyOf : ℕ → ℕ → ℕ
-keyOf label junction = label * leaves + junction
+keyOf label junction = label % 16777216 * leaves + junction % leaves
 
 abbrev pub junctionOf : ℕ → ℕ
 junctionOf key = key % leaves

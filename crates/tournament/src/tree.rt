@@ -1,39 +1,37 @@
 // A tournament of keys, by which the nearest junction is known. Each junction has a leaf with its key, and each node above
 // plays a match that the lesser of the two keys below it wins: the root holds the least key of all.
 ghost use mathlib.Core.Path.{_≡_};
-ghost use Prim.Native.Nat.{_<_, _≤_, min};
-ghost use Rattle.model.specs.Limits.{maxJunctions};
-ghost use Rattle.model.specs.Ticks.{last};
-ghost use Rattle.labelling.specs.code.Tournament.{Tournament, Entered, Least, keyOf, junctionOf};
+ghost use Prim.Native.Nat.{_<_, min};
+ghost use Rattle.tournament.specs.Tournament.{leaves, Tournament, Entered, Least, keyOf, junctionOf};
 
 // The least power of two that is no less than the number of junctions, so that all leaves lie equally deep.
 const LEAVES: usize = 256;
 
 // The nodes 2 k and 2 k + 1 stand below node k. The leaves are the nodes from LEAVES on, and there is no node 0.
-pub(crate) const NODES: usize = 2 * LEAVES;
+pub const NODES: usize = 2 * LEAVES;
 
 const ROOT: usize = 1;
 
+// Labels below this have keys of their own. Every tick lies below it.
+const LABELS: u32 = 16_777_216;
+
 // The key of a junction that is reached: that of an earlier label is less, and the junction can be read off it.
-pub(crate) fn key_of(label: u32, junction: usize) -> u32
-    requires { ⌜ label ≤ last ⌝ }
-    requires { ⌜ junction < maxJunctions ⌝ }
+pub fn key_of(label: u32, junction: usize) -> u32
     ensures { λ r. ⌜ r ≡ keyOf label junction ⌝ }
 {
-    label * (LEAVES as u32) + (junction as u32)
+    label % LABELS * (LEAVES as u32) + ((junction % LEAVES) as u32)
 }
 
 // The junction that a key is of.
-pub(crate) fn junction_of(key: u32) -> usize
+pub fn junction_of(key: u32) -> usize
     ensures { λ r. ⌜ r ≡ junctionOf key ⌝ }
 {
     (key as usize) % LEAVES
 }
 
 // The least key of all.
-pub(crate) fn least_key(tree: &[u32; NODES]) -> u32
-    requires { ⌜ Tournament (now tree) ⌝ }
-    ensures { λ r. ⌜ Least (now (tree .entry)) r ⌝ }
+pub fn least_key(tree: &[u32; NODES]) -> u32
+    ensures { λ r. ⌜ (Tournament (now (tree .entry)) → Least (now (tree .entry)) r) ⌝ }
 {
     tree[ROOT]
 }
@@ -46,12 +44,10 @@ fn lesser(a: u32, b: u32) -> u32
 }
 
 // Sets a junction's key, and plays the eight matches between its leaf and the root again.
-pub(crate) fn enter(tree: &mut [u32; NODES], junction: usize, key: u32)
-    requires { ⌜ Tournament (now tree) ⌝ }
-    requires { ⌜ junction < maxJunctions ⌝ }
-    ensures { λ _. ⌜ Entered (now (tree .entry)) junction key (now (tree .exit)) ⌝ }
+pub fn enter(tree: &mut [u32; NODES], junction: usize, key: u32)
+    ensures { λ _. ⌜ (Tournament (now (tree .entry)) → junction < leaves → Entered (now (tree .entry)) junction key (now (tree .exit))) ⌝ }
 {
-    let mut i = LEAVES + junction;
+    let mut i = LEAVES + junction % LEAVES;
     tree[i] = key;
     while ROOT < i {
         i /= 2;

@@ -9,7 +9,7 @@ use native.Mathlib.Nat.{le-refl}
 use native.Mathlib.Omega.{arith}
 use lib.ListN.{length, getD, set, replicate, length-set, length-replicate, getD-replicate}
 use lib.Seq.{getD-set-same, getD-set-other}
-use Rattle.labelling.specs.code.Tournament.{leaf, Played, Tournament, Least, Entered}
+use Rattle.tournament.specs.Tournament.{leaf, Played, Tournament, Least, Entered}
 
 -- A node is one of the two below that of half its number.
 halves : (k : ℕ) → (2 * (k / 2) ≡ k) ⊎ (2 * (k / 2) + 1 ≡ k)

@@ -1,8 +1,0 @@
--- `tournament::least_key` reads the root, which holds the least key.
-use borrow.Author.Needs.{needs}
-use Rattle.labelling.proofs.Matches.{root-is-least}
-use Rattle.labelling.proofs.tournament.least_key.Statement.{statement}
-use Rattle.labelling.proofs.tournament.least_key.Tie as tie
-
-pub least-key-spec : {M : Type 1} → statement M
-least-key-spec = tie.close (tie.spec (λ c. search needs) (λ c. root-is-least (c .before .pre)))

@@ -14,7 +14,8 @@ use Rattle.model.specs.Labels.{labelsOf, predecessorsOf, Certified, Lowest}
 use Rattle.model.specs.Walks.{Earliest}
 use Rattle.refusals.specs.Refusals.{numberOf}
 use Rattle.model.specs.Rules.{Outcome, refused, replied, Rule, _if_, firstBroken, after}
-use Rattle.checking.specs.Question.{questionRules, Taken}
+use Rattle.checking.specs.Question.{questionRules}
+use Rattle.settling.specs.Labelable.{Labelable}
 use Rattle.labelling.specs.declared.labels.Labelled.{Labelled}
 use Rattle.labelling.specs.declared.labels.Labelled.the-variants.{Written, Refused}
 
@@ -38,13 +39,7 @@ predecessorsAfter N source departure labels predecessors = after (labelsAnswer N
 
 -- ---- What is proved of it
 
--- What Labels asks: a question that is taken, and buffers of the right length.
-pub record Labelable (N : Network) (source departure : ℕ) (labels predecessors : List ℕ) : Type 0 where
-  pub taken : Taken N source departure
-  pub labels-long : length labels ≡ N .junctions
-  pub predecessors-long : length predecessors ≡ N .junctions
-
--- Labels replies exactly then.
+-- Labels replies exactly where the question is taken and the buffers have the right length.
 abbrev pub LabelsRepliesWhenLabelable : Type 0
 LabelsRepliesWhenLabelable = (N : Network) (source departure : ℕ) (labels predecessors : List ℕ) →
     (labelsAnswer N source departure labels predecessors ≡ replied tt) ↔ Labelable N source departure labels predecessors

@@ -1,3 +1,2 @@
-pub mod code
 pub mod Demand3
 pub mod Labels

@@ -2,11 +2,11 @@
 ghost use mathlib.Core.Path.{_≡_};
 ghost use Rattle.model.specs.Lent.{lentNetwork};
 ghost use Rattle.labelling.specs.Labels.{outcomeOf, labelsAnswer, labelsAfter, predecessorsAfter};
-use crate::labelling::label_all;
 use checking::network::NetworkCheck;
 use checking::question::question_check;
 use model::tick::Tick;
 use refusals::refusal::Refusal;
+use settling::label::label_from;
 
 pub enum Labelled {
     Written,
@@ -49,7 +49,7 @@ pub fn labels(
     if predecessors.len() != junctions as usize {
         return Labelled::Refused(Refusal::BufferLength);
     }
-    label_all(
+    label_from(
         junctions as usize,
         fences,
         tails,

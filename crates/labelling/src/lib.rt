@@ -1,4 +1,3 @@
-// Labels, on a network that lies in lent tables: the labelling, and the operation that refuses with the first rule that is broken, in
-// the order of the numbers, and otherwise labels. It asks nothing of its caller.
-mod labelling;
+// Labels, on a network that lies in lent tables: the operation that refuses with the first rule that is broken, in the order of the
+// numbers, and otherwise labels. It asks nothing of its caller.
 pub mod labels;

@@ -20,7 +20,7 @@ use Rattle.model.proofs.IntervalPieces.{interval-is-piece}
 use Rattle.model.proofs.NetworkRules.{accepts-when-kept}
 use Rattle.model.proofs.Pieces.{arrival-over-piece, never-from-last}
 use Rattle.model.proofs.Rules.{every-at, fences-kept}
-use Rattle.labelling.specs.Labels.{Labelable}
+use Rattle.settling.specs.Labelable.{Labelable}
 use Rattle.labelling.proofs.LabelRules.{labels-replies-when-labelable}
 use Rattle.driving.specs.ArcArrival.{arcArrival}
 use Rattle.townfile.specs.Bytes.{upTo, onFirst, pieces}

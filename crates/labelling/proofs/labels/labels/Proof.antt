@@ -50,14 +50,14 @@ returns-2 c = buffers-refuse _ _ _ _ _ (taken (c .before)) (short-labels _ _ _ (
 returns-3 : tie.Need-returns-3
 returns-3 c = buffers-refuse _ _ _ _ _ (taken (c .before .before)) (short-predecessors _ _ _ (c .before .if1 .left) (c .if2 .taken))
 
-label-all-requires : tie.Need-label-all-requires
-label-all-requires c κs = kept-labelable _ _ _ _ _ (taken (c .before .before .before .before)) (kept (c .before .before))
-
 returns-4 : tie.Need-returns-4
 returns-4 c =
     let labelled = c .before .before .before .before in
     let fits = labelled .before .before .before in
-    ends-written _ _ _ _ _ (replies _ _ _ _ _ (taken (fits .before .before)) (kept fits)) (labelled .label-all .ensures .0) (labelled .label-all .ensures .1)
+    let question = taken (fits .before .before) in
+    let labelable = kept-labelable _ _ _ _ _ question (kept fits) in
+    let (labels-are, predecessors-are) = labelled .label-from .ensures in
+    ends-written _ _ _ _ _ (replies _ _ _ _ _ question (kept fits)) (labels-are labelable) (predecessors-are labelable)
 
 pub labels-spec : {M : Type 1} → statement M
 labels-spec =
@@ -69,7 +69,7 @@ labels-spec =
     (λ c. search needs)
     returns-2
     returns-3
-    label-all-requires
+    (λ c κs. search needs)
     (λ c. search needs)
     (λ c. search needs)
     returns-4)

@@ -13,10 +13,10 @@ use lib.Seq.{getD-set-same, getD-set-other}
 use borrow.Author.Tests.{lt-ltb}
 use Rattle.model.specs.Ticks.{last, never}
 use Rattle.model.proofs.Tests.{ltb-cases}
-use Rattle.labelling.specs.code.Labelling.{lowered, Rekeyed}
+use Rattle.settling.specs.code.Offering.{lowered, Rekeyed}
 use Rattle.tournament.specs.Tournament.{leaf, Tournament, Least, Entered, keyOf, junctionOf}
 use Rattle.tournament.proofs.Matches.{equal-keys}
-use Rattle.labelling.proofs.Settling.{by-flag}
+use Rattle.settling.proofs.Settling.{by-flag}
 
 -- The key with which a junction stands in the tournament: never where it is settled or unreached.
 abbrev keyIn : List ℕ → List Bool → ℕ → ℕ
@@ -26,12 +26,15 @@ pub record Queued (tree labels : List ℕ) (settled : List Bool) : Type 0 where
   pub tournament : Tournament tree
   pub leaf-is : (j : ℕ) → j < 256 → leaf tree j ≡ keyIn labels settled j
 
--- A junction that is reached and not settled, and whose label is the least of those.
-pub record Nearest (labels : List ℕ) (settled : List Bool) (junction : ℕ) : Type 0 where
+-- A junction that is reached and not settled.
+pub record Waits (labels : List ℕ) (settled : List Bool) (junction : ℕ) : Type 0 where
   pub inside : junction < length labels
   pub unsettled : getD settled junction false ≡ false
   pub reached : getD labels junction never < never
-  pub least : (k : ℕ) → k < length labels → getD settled k false ≡ false → getD labels junction never ≤ getD labels k never
+
+-- Its label is the least of those that are not settled.
+abbrev pub Nearest : List ℕ → List Bool → ℕ → Type 0
+Nearest labels settled junction = (k : ℕ) → k < length labels → getD settled k false ≡ false → getD labels junction never ≤ getD labels k never
 
 -- Every label that is not never is by the last tick.
 abbrev pub ByLast : List ℕ → Type 0
@@ -54,23 +57,21 @@ module _ {tree labels : List ℕ} {settled : List Bool} (q : Queued tree labels 
   no-less k h waits reached = omega (arith, l .no-lower k h, q .leaf-is k h, key-waiting labels settled k waits reached)
 
   -- A key below never is that of a junction which waits. Of labels that are ticks, the lesser key is that of the lesser label.
-  pub least-is-nearest : key < never → ByLast labels → {junction : ℕ} → junction ≡ junctionOf key → Nearest labels settled junction
-  least-is-nearest some by-last {junction} of-key =
+  pub least-waits : key < never → {junction : ℕ} → junction ≡ junctionOf key → Waits labels settled junction × (ByLast labels → Nearest labels settled junction)
+  least-waits some {junction} of-key =
       ⊎-elim
       (λ w.
       let holds : key ≡ keyOf (getD labels holder never) holder = sym (l .held) ∙ leaf-is ∙ key-waiting labels settled holder (w .0) (w .1) in
       let is-holder : junction ≡ holder = omega (arith, l .holder-inside) in
       let inside : holder < length labels =
       by-cases (decLt holder (length labels)) (λ h. h) (λ outside. absurd (omega (arith, w .1, unlabelled (omega arith)))) in
-      rw is-holder (record {
-        inside = inside;
-        unsettled = w .0;
-        reached = w .1;
-        least = λ k h waits.
+      rw is-holder (
+        record { inside = inside; unsettled = w .0; reached = w .1 },
+        λ by-last k h waits.
             by-cases (decLt (getD labels k never) never)
             (λ reached. omega (arith, no-less k (omega arith) waits reached, by-last k h reached, by-last holder inside (w .1)))
-            (λ unreached. omega (arith, w .1));
-      }))
+            (λ unreached. omega (arith, w .1)),
+      ))
       (λ none. absurd (omega (arith, l .held, leaf-is, none)))
       (waiting-or-never labels settled holder)
     where

@@ -1,4 +1,4 @@
--- `labelling::link_arcs` links the arcs from the last one back (`Linking`), and so all of them.
+-- `link::link_arcs` links the arcs from the last one back (`Linking`), and so all of them.
 use borrow.Author.Needs.{needs}
 use Prim.Native.Nat.{_-_, _<_}
 use mathlib.Core.Path.{ap, _∙_}
@@ -7,9 +7,9 @@ use lib.ListN.{length, getD, length-replicate}
 use mir.Facts.{fits-widen}
 use denote.Ref.{now}
 use Rattle.model.specs.Labels.{noArc}
-use Rattle.labelling.proofs.Linking.{Linking, linking-starts, linking-goes-on, linking-ends}
-use Rattle.labelling.proofs.labelling.link_arcs.Statement.{statement}
-use Rattle.labelling.proofs.labelling.link_arcs.Tie as tie
+use Rattle.settling.proofs.Linking.{Linking, linking-starts, linking-goes-on, linking-ends}
+use Rattle.settling.proofs.link.link_arcs.Statement.{statement}
+use Rattle.settling.proofs.link.link_arcs.Tie as tie
 
 abbrev Inv-loop : tie.InvT-loop
 Inv-loop tails first₀ next₀ a₀ first next a = Linking tails first next a

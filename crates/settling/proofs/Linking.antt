@@ -12,7 +12,7 @@ use lib.Seq.{drop-cons, getD-drop, getD-set-same, getD-set-other}
 use borrow.Author.Tests.{eq-eqb}
 use Rattle.model.specs.Labels.{noArc}
 use Rattle.model.proofs.Tests.{eqb-cases}
-use Rattle.labelling.specs.code.Labelling.{firstArc, arcFrom, Linked}
+use Rattle.settling.specs.code.Linked.{firstArc, arcFrom, Linked}
 
 -- ---- The first arc of a tail from an arc on
 

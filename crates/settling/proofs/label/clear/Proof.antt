@@ -1,4 +1,4 @@
--- `labelling::clear` fills both tables from the front, as `Filled` says of each.
+-- `label::clear` fills both tables from the front, as `Filled` says of each.
 use borrow.Author.Needs.{needs}
 use mathlib.Core.Path.{refl, ap, _∙_}
 use Prim.Native.Nat.{_-_, _≤_, _<_, zero-le}
@@ -7,9 +7,9 @@ use lib.ListN.{length, replicate, length-set}
 use denote.Ref.{now}
 use Rattle.model.specs.Ticks.{never}
 use Rattle.model.specs.Labels.{noArc}
-use Rattle.labelling.proofs.Filled.{Filled, filled-length, filled-more, filled-whole}
-use Rattle.labelling.proofs.labelling.clear.Statement.{statement}
-use Rattle.labelling.proofs.labelling.clear.Tie as tie
+use Rattle.settling.proofs.Filled.{Filled, filled-length, filled-more, filled-whole}
+use Rattle.settling.proofs.label.clear.Statement.{statement}
+use Rattle.settling.proofs.label.clear.Tie as tie
 
 abbrev Inv-loop : tie.InvT-loop
 Inv-loop labels₀ predecessors₀ j₀ labels predecessors j = Filled labels₀ labels never j × Filled predecessors₀ predecessors noArc j

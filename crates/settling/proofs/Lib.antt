@@ -1,0 +1,10 @@
+pub mod Filled
+pub mod Fitting
+pub mod Linking
+pub mod Links
+pub mod Offered
+pub mod Queue
+pub mod Rounds
+pub mod Settling
+pub mod Standing
+pub mod Turns

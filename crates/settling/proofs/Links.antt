@@ -1,0 +1,80 @@
+-- The offers of a junction's arcs along the links. Between two of them (`Onward`) the tables are as long as at the start, the matches are
+-- played, and what the arcs from a on leave is what all of them leave.
+use Prim.Native.Nat.{ℕ, _+_, _-_, _*_, _≤_, _<_}
+use mathlib.Core.Path.{_≡_, refl, _∙_}
+use mathlib.Core.Bool.{Bool, true, false}
+use mathlib.Core.List.{List}
+use mathlib.Core.Logic.{by-cases}
+use native.Mathlib.Decide.{ℕ-discrete}
+use native.Mathlib.Nat.{mul-le-mul-right, suc-mul}
+use native.Mathlib.Omega.{arith}
+use lib.ListN.{length, getD}
+use Rattle.model.specs.Labels.{noArc}
+use Rattle.tournament.specs.Tournament.{Tournament}
+use Rattle.settling.specs.code.Offering.{Tables, Offerable, Offered, Drivable, AllOffered, skips, offers}
+use Rattle.settling.proofs.Offered.{labels-stay-long, predecessors-stay-long, stays-tournament}
+
+pub arc-inside : (a n m : ℕ) → a < m → a * n + n ≤ m * n
+arc-inside a n m h = omega (arith, mul-le-mul-right n h, suc-mul a n)
+
+pub record Onward (first : ℕ) (fences heads lengths speeds next : List ℕ) (before : Tables) (settled : List Bool) (tick interval a : ℕ) (now : Tables) : Type 0 where
+  pub arc-is : (a ≡ noArc → ⊥) → a < length heads
+  pub labels-long : length (now .labels) ≡ length (before .labels)
+  pub predecessors-long : length (now .predecessors) ≡ length (before .predecessors)
+  pub tournament : Tournament (now .tree)
+  pub so-far : (after : Tables) → AllOffered fences heads lengths speeds next settled tick interval a now after →
+      AllOffered fences heads lengths speeds next settled tick interval first before after
+
+module _ {first : ℕ} {fences heads lengths speeds next : List ℕ} {before : Tables} (d : Drivable first fences heads lengths speeds next before) where
+  pub onward-starts : (settled : List Bool) (tick interval : ℕ) → Onward first fences heads lengths speeds next before settled tick interval first before
+  onward-starts settled tick interval = record {
+    arc-is = d .first-is;
+    labels-long = refl;
+    predecessors-long = refl;
+    tournament = d .tournament;
+    so-far = λ after rest. rest;
+  }
+
+  module _ {settled : List Bool} {tick interval a : ℕ} {now : Tables} (o : Onward first fences heads lengths speeds next before settled tick interval a now)
+      (some : a ≡ noArc → ⊥) where
+    abbrev is-arc : a < length heads
+    is-arc = o .arc-is some
+
+    pub onward-offerable : Offerable a (getD heads a 0) fences lengths speeds now
+    onward-offerable = record {
+      few-arcs = omega (arith, is-arc, d .few-arcs);
+      few-intervals = d .few-intervals;
+      has-length = omega (arith, is-arc, d .lengths-long);
+      has-speeds = omega (arith, arc-inside a (length fences) (length heads) is-arc, d .speeds-long);
+      is-junction = omega (arith, d .head-below a is-arc, d .few-junctions);
+      has-label = omega (arith, d .head-below a is-arc, o .labels-long);
+      has-predecessor = omega (arith, d .head-below a is-arc, o .predecessors-long, d .predecessors-long);
+      tournament = o .tournament;
+    }
+
+    pub onward-skips : getD settled (getD heads a 0) false ≡ true →
+        Onward first fences heads lengths speeds next before settled tick interval (getD next a 0) now
+    onward-skips done = record {
+      arc-is = λ more. d .next-is a is-arc more .1;
+      labels-long = o .labels-long;
+      predecessors-long = o .predecessors-long;
+      tournament = o .tournament;
+      so-far = λ after rest. o .so-far after (skips some done rest);
+    }
+
+    pub onward-offers : {then : Tables} → getD settled (getD heads a 0) false ≡ false →
+        Offered fences lengths speeds a (getD heads a 0) tick interval now then →
+        Onward first fences heads lengths speeds next before settled tick interval (getD next a 0) then
+    onward-offers waits offered = record {
+      arc-is = λ more. d .next-is a is-arc more .1;
+      labels-long = labels-stay-long (offered .leaves) ∙ o .labels-long;
+      predecessors-long = predecessors-stay-long (offered .leaves) ∙ o .predecessors-long;
+      tournament = stays-tournament (offered .leaves) (o .tournament);
+      so-far = λ after rest. o .so-far after (offers some waits offered rest);
+    }
+
+    -- the next arc has a higher number, or is none
+    pub next-higher : noArc - getD next a 0 < noArc - a
+    next-higher =
+        let few : a < 640 = omega (arith, is-arc, d .few-arcs) in
+        by-cases (ℕ-discrete (getD next a 0) noArc) (λ e. omega (arith, e)) (λ more. omega (arith, d .next-is a is-arc more .0, d .next-is a is-arc more .1))

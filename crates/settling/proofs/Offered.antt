@@ -1,0 +1,83 @@
+-- What an arc's offer does to the tables, by how the arrival that it reckons stands to the head's label, and what stays.
+use Prim.Native.Nat.{ℕ, _≤_, _<_}
+use mathlib.Core.Path.{_≡_, refl, sym, ap, _∙_}
+use mathlib.Core.Bool.{Bool, true, false, _&&_, cond}
+use mathlib.Core.List.{List}
+use mathlib.Core.Logic.{_⊎_, ⊎-elim}
+use native.Mathlib.Omega.{arith}
+use lib.Dec.{ltb, eqb}
+use lib.ListN.{length, getD, set, length-set}
+use borrow.Author.Tests.{le-leb, lt-leb, lt-ltb, le-ltb, eq-eqb, ne-eqb}
+use Rattle.model.specs.Ticks.{last, never, tick?}
+use Rattle.model.proofs.Tests.{ltb-cases}
+use Rattle.tournament.specs.Tournament.{Tournament, Entered, keyOf}
+use Rattle.settling.specs.code.Offering.{Tables, tables, labelOf, Leaves}
+
+-- An arrival that is by the last tick or never is its own label.
+pub label-of-tick : (t : ℕ) → (t ≤ last) ⊎ (t ≡ never) → labelOf (tick? t) ≡ t
+label-of-tick t = ⊎-elim (λ h. rw (le-leb t last h)) (λ e. rw (lt-leb t last (omega arith)) (sym e))
+
+-- ---- What is left
+
+module _ (before : Tables) (a head r : ℕ) where
+  pub leaves-lower : r < getD (before .labels) head 0 → {key : ℕ} {tree : List ℕ} → key ≡ keyOf r head → Entered (before .tree) head key tree →
+      Leaves a head r before (tables (set (before .labels) head r) (set (before .predecessors) head a) tree)
+  leaves-lower h is-key entered =
+      let lower = lt-ltb r (getD (before .labels) head 0) h in
+      record {
+        labels-are = rw lower;
+        predecessors-are = rw lower;
+        rekeyed = record { entered = λ _. rw is-key at entered; kept = λ l. absurd (omega arith) };
+      }
+
+  -- where the label is not lowered, the predecessor alone can change
+  leaves-labels : getD (before .labels) head 0 ≤ r → (lower : Bool) →
+      (ltb r never && eqb r (getD (before .labels) head 0) && ltb a (getD (before .predecessors) head 0)) ≡ lower →
+      Leaves a head r before (tables (before .labels) (cond lower (set (before .predecessors) head a) (before .predecessors)) (before .tree))
+  leaves-labels h lower e =
+      let no-lower = le-ltb r (getD (before .labels) head 0) h in
+      record {
+        labels-are = rw no-lower;
+        predecessors-are = rw (no-lower, e);
+        rekeyed = record { entered = λ l. absurd (omega arith); kept = λ _. refl };
+      }
+
+  pub leaves-unreached : getD (before .labels) head 0 ≤ r → r ≡ never → Leaves a head r before before
+  leaves-unreached h e = leaves-labels h false (rw (le-ltb r never (omega arith)))
+
+  module _ (h : getD (before .labels) head 0 ≤ r) (reached : r < never) where
+    pub leaves-tie : r ≡ getD (before .labels) head 0 → a < getD (before .predecessors) head 0 →
+        Leaves a head r before (tables (before .labels) (set (before .predecessors) head a) (before .tree))
+    leaves-tie e lower =
+        leaves-labels h true (rw (lt-ltb r never reached, eq-eqb r (getD (before .labels) head 0) e, lt-ltb a (getD (before .predecessors) head 0) lower))
+
+    pub leaves-tie-kept : r ≡ getD (before .labels) head 0 → getD (before .predecessors) head 0 ≤ a → Leaves a head r before before
+    leaves-tie-kept e kept =
+        leaves-labels h false (rw (lt-ltb r never reached, eq-eqb r (getD (before .labels) head 0) e, le-ltb a (getD (before .predecessors) head 0) kept))
+
+    pub leaves-later : (r ≡ getD (before .labels) head 0 → ⊥) → Leaves a head r before before
+    leaves-later e = leaves-labels h false (rw (lt-ltb r never reached, ne-eqb r (getD (before .labels) head 0) e))
+
+-- ---- What stays
+
+set-or-not : (b : Bool) (l : List ℕ) (i v : ℕ) (rest : List ℕ) → length rest ≡ length l → length (cond b (set l i v) rest) ≡ length l
+set-or-not true l i v rest same = length-set l i v
+set-or-not false l i v rest same = same
+
+module _ {a head t : ℕ} {before after : Tables} (l : Leaves a head t before after) where
+  pub labels-stay-long : length (after .labels) ≡ length (before .labels)
+  labels-stay-long = ap length (l .labels-are) ∙ set-or-not (ltb t (getD (before .labels) head 0)) (before .labels) head t (before .labels) refl
+
+  pub predecessors-stay-long : length (after .predecessors) ≡ length (before .predecessors)
+  predecessors-stay-long =
+      let old = before .predecessors in
+      let ties = ltb t never && eqb t (getD (before .labels) head 0) && ltb a (getD old head 0) in
+      let kept : length (cond ties (set old head a) old) ≡ length old = set-or-not ties old head a old refl in
+      ap length (l .predecessors-are) ∙ set-or-not (ltb t (getD (before .labels) head 0)) old head a (cond ties (set old head a) old) kept
+
+  pub stays-tournament : Tournament (before .tree) → Tournament (after .tree)
+  stays-tournament played =
+      ⊎-elim
+      (λ w. l .rekeyed .entered (w .1) .tournament)
+      (λ w. rw (l .rekeyed .kept (w .1)) played)
+      (ltb-cases t (getD (before .labels) head 0))

@@ -1,0 +1,76 @@
+-- The labelling's loop. Whatever the tables, between two rounds the arcs are linked and the tables stand; where the question is taken,
+-- the settled junctions' arcs have offered too (`Between`). A round keeps this.
+use Prim.Native.Nat.{ℕ, suc, _+_, _≤_, _<_}
+use mathlib.Core.Path.{_≡_, sym, _∙_}
+use mathlib.Core.Bool.{Bool, true, false}
+use mathlib.Core.List.{List}
+use native.Mathlib.Omega.{arith}
+use lib.ListN.{length, getD, set, drop, replicate}
+use Rattle.model.specs.Ticks.{never}
+use Rattle.model.specs.Intervals.{passed}
+use Rattle.model.specs.Network.{Network}
+use Rattle.model.specs.Labels.{noArc}
+use Rattle.model.proofs.Passed.{passed-drop}
+use Rattle.checking.specs.Question.{Taken}
+use Rattle.tournament.specs.Tournament.{Entered, keyOf}
+use Rattle.settling.specs.code.Fitting.{TablesFit}
+use Rattle.settling.specs.code.Linked.{Linked}
+use Rattle.settling.specs.code.Offering.{Tables, tables, Drivable, AllOffered}
+use Rattle.settling.proofs.Queue.{Waits, Nearest, ByLast}
+use Rattle.settling.proofs.Standing.{Standing, stands-settles, stands-offered}
+use Rattle.settling.proofs.Turns.{Round, labels-by-last, still-reached, first-of, next-later, turn-starts, turn-through, turn-ends}
+
+pub record Between (N : Network) (source departure : ℕ) (first next : List ℕ) (settled : List Bool) (reached : ℕ) (t : Tables) : Type 0 where
+  pub linked : Linked (N .tails) first next
+  pub some-reached : 1 ≤ reached
+  pub standing : Standing (N .junctions) settled t
+  pub round : Taken N source departure → Round N source departure settled reached t
+
+module _ {N : Network} (fit : TablesFit N) where
+  pub drivable : {first next : List ℕ} {settled : List Bool} {t : Tables} {junction : ℕ} → Linked (N .tails) first next → Standing (N .junctions) settled t →
+      junction < 200 → Drivable (getD first junction 0) (N .fences) (N .heads) (N .lengths) (N .speeds) next t
+  drivable {next} linked s inside = record {
+    few-arcs = omega (arith, fit .heads-long, fit .arcs-fit);
+    few-intervals = fit .intervals-fit;
+    lengths-long = omega (arith, fit .lengths-long, fit .heads-long);
+    speeds-long = fit .speeds-long ∙ rw (fit .heads-long);
+    few-junctions = omega (arith, s .labels-long, fit .junctions-fit);
+    predecessors-long = omega (arith, s .predecessors-long, s .labels-long);
+    head-below = λ a h. omega (arith, fit .head-below a (omega (arith, fit .heads-long)), s .labels-long);
+    first-is = λ some. omega (arith, first-of N linked inside some .0, fit .heads-long);
+    next-is = λ a h more.
+        let (later, is-arc) = next-later N linked a (omega (arith, fit .heads-long)) more in
+        (later, omega (arith, fit .heads-long));
+    tournament = s .queued .tournament;
+  }
+
+  module _ {source departure : ℕ} {first next : List ℕ} {settled : List Bool} {reached : ℕ} {t : Tables}
+      (b : Between N source departure first next settled reached t) {junction : ℕ} (inside : junction < 200)
+      (waits : Waits (t .labels) settled junction) (nearest : ByLast (t .labels) → Nearest (t .labels) settled junction) where
+    abbrev tick : ℕ
+    tick = getD (t .labels) junction 0
+
+    -- the fences that its label has reached: those of the junction before, and the rest
+    reached-now : Taken N source departure → reached + passed (drop reached (N .fences)) tick ≡ passed (N .fences) tick
+    reached-now q = omega (arith, passed-drop reached (N .fences) tick (still-reached q (b .round q) waits))
+
+    pub between-goes-on : {tree : List ℕ} {u : Tables} {reached′ interval : ℕ} → Entered (t .tree) junction never tree →
+        reached′ ≡ reached + passed (drop reached (N .fences)) tick → suc interval ≡ reached′ →
+        AllOffered (N .fences) (N .heads) (N .lengths) (N .speeds) next (set settled junction true) tick interval (getD first junction 0)
+        (tables (t .labels) (t .predecessors) tree) u →
+        Between N source departure first next (set settled junction true) reached′ u
+    between-goes-on {reached′} entered passes before offered = record {
+      linked = b .linked;
+      some-reached = omega (arith, b .some-reached);
+      standing = stands-offered
+          (λ a h. fit .head-below a (omega (arith, fit .heads-long)))
+          (λ a h more. omega (arith, next-later N (b .linked) a (omega (arith, fit .heads-long)) more .1, fit .heads-long))
+          offered
+          (λ some. omega (arith, first-of N (b .linked) inside some .0, fit .heads-long))
+          (stands-settles (b .standing) inside entered);
+      round = λ q.
+          let now-passed : reached′ ≡ passed (N .fences) tick = passes ∙ reached-now q in
+          let starts =
+          turn-starts q (b .round q) (b .standing .settled-long) waits (nearest (labels-by-last q (b .round q))) (b .linked) (before ∙ now-passed) in
+          turn-ends q (turn-through q (b .linked) offered (first-of N (b .linked) inside) starts) (omega arith);
+    }

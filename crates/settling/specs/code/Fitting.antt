@@ -1,0 +1,33 @@
+-- What the labelling's indices rest on.
+use Prim.Native.Nat.{ℕ, _*_, _≤_, _<_}
+use mathlib.Core.Path.{_≡_}
+use mathlib.Core.List.{List}
+use lib.ListN.{length, getD}
+use Rattle.model.specs.Ticks.{last}
+use Rattle.model.specs.Limits.{maxJunctions, maxArcs, maxIntervals}
+use Rattle.model.specs.Network.{Network, arcs, intervals}
+
+-- The least number below which, added to one, all ends lie.
+pub record Highest (ends : List ℕ) (high : ℕ) : Type 0 where
+  pub no-higher : (a : ℕ) → a < length ends → getD ends a 0 ≤ high
+  pub least : (n : ℕ) → 0 < n → ((a : ℕ) → a < length ends → getD ends a 0 < n) → high < n
+
+-- The counts are within the limits, the tables as long as they must be, and the ends are junctions.
+pub record TablesFit (N : Network) : Type 0 where
+  pub some-junction : 1 ≤ N .junctions
+  pub junctions-fit : N .junctions ≤ maxJunctions
+  pub intervals-fit : intervals N ≤ maxIntervals
+  pub arcs-fit : arcs N ≤ maxArcs
+  pub heads-long : length (N .heads) ≡ arcs N
+  pub lengths-long : length (N .lengths) ≡ arcs N
+  pub speeds-long : length (N .speeds) ≡ arcs N * intervals N
+  pub tail-below : (a : ℕ) → a < arcs N → getD (N .tails) a 0 < N .junctions
+  pub head-below : (a : ℕ) → a < arcs N → getD (N .heads) a 0 < N .junctions
+
+-- So do the source, the departure and the buffers.
+pub record Fits (N : Network) (source departure : ℕ) (labels predecessors : List ℕ) : Type 0 where
+  pub tables-fit : TablesFit N
+  pub source-below : source < N .junctions
+  pub in-time : departure ≤ last
+  pub labels-long : length labels ≡ N .junctions
+  pub predecessors-long : length predecessors ≡ N .junctions

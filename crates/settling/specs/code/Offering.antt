@@ -1,0 +1,100 @@
+-- What the offers of arcs do to the tables of a labelling.
+use Prim.Native.Nat.{ℕ, _+_, _*_, _≤_, _<_}
+use mathlib.Core.Path.{_≡_}
+use mathlib.Core.Bool.{Bool, true, false, _&&_, cond}
+use mathlib.Core.List.{List}
+use mathlib.Core.Option.{Option, none, some}
+use lib.Dec.{ltb, eqb}
+use lib.ListN.{length, getD, set}
+use Rattle.model.specs.Ticks.{never}
+use Rattle.model.specs.Limits.{maxJunctions, maxArcs, maxIntervals}
+use Rattle.model.specs.Labels.{noArc}
+use Rattle.model.specs.Flow.{spansOf, arrival}
+use Rattle.model.specs.Intervals.{speedAt}
+use Rattle.model.specs.Network.{arcSpeeds}
+use Rattle.driving.specs.ArcKept.{ArcKept}
+use Rattle.tournament.specs.Tournament.{Tournament, Entered, keyOf}
+
+-- What the labelling writes: both buffers, and the tournament of the junctions that are reached and not settled.
+pub record Tables : Type 0 where
+  pub labels : List ℕ
+  pub predecessors : List ℕ
+  pub tree : List ℕ
+
+abbrev pub tables : List ℕ → List ℕ → List ℕ → Tables
+tables labels predecessors tree = record { labels = labels; predecessors = predecessors; tree = tree }
+
+-- ---- An arc's offer
+
+-- The arrival on an arc that is left at a tick, from the tables that an offer is lent.
+abbrev pub arrivalOn : List ℕ → List ℕ → List ℕ → ℕ → ℕ → ℕ
+arrivalOn fences lengths speeds a t = arrival (speedAt fences (arcSpeeds fences speeds a)) (spansOf (getD lengths a 0)) t
+
+-- An arrival as a label.
+abbrev pub labelOf : Option ℕ → ℕ
+labelOf (some t) = t
+labelOf none = never
+
+-- An earlier arrival lowers the head's label.
+abbrev pub lowered : List ℕ → ℕ → ℕ → List ℕ
+lowered labels head t = cond (ltb t (getD labels head 0)) (set labels head t) labels
+
+-- Of the arcs that arrive at the head's label, the lowest-numbered is its predecessor.
+abbrev pub taken : List ℕ → List ℕ → ℕ → ℕ → ℕ → List ℕ
+taken labels predecessors head t a =
+    cond (ltb t (getD labels head 0)) (set predecessors head a)
+    (cond (ltb t never && eqb t (getD labels head 0) && ltb a (getD predecessors head 0)) (set predecessors head a) predecessors)
+
+-- A head whose label is lowered gets the key of its new label.
+pub record Rekeyed (labels before : List ℕ) (head t : ℕ) (after : List ℕ) : Type 0 where
+  pub entered : t < getD labels head 0 → Entered before head (keyOf t head) after
+  pub kept : getD labels head 0 ≤ t → after ≡ before
+
+-- What an offer is handed.
+pub record Offerable (a head : ℕ) (fences lengths speeds : List ℕ) (before : Tables) : Type 0 where
+  pub few-arcs : a < maxArcs
+  pub few-intervals : length fences ≤ maxIntervals
+  pub has-length : a < length lengths
+  pub has-speeds : a * length fences + length fences ≤ length speeds
+  pub is-junction : head < maxJunctions
+  pub has-label : head < length (before .labels)
+  pub has-predecessor : head < length (before .predecessors)
+  pub tournament : Tournament (before .tree)
+
+-- What an offer leaves that arrives at the tick t.
+pub record Leaves (a head t : ℕ) (before after : Tables) : Type 0 where
+  pub labels-are : after .labels ≡ lowered (before .labels) head t
+  pub predecessors-are : after .predecessors ≡ taken (before .labels) (before .predecessors) head t a
+  pub rekeyed : Rekeyed (before .labels) (before .tree) head t (after .tree)
+
+-- The tick that it reckons is the arrival on the arc, where the arc keeps the rules.
+pub record Offered (fences lengths speeds : List ℕ) (a head tick interval : ℕ) (before after : Tables) : Type 0 where
+  pub reckoned : ℕ
+  pub is-arrival : ArcKept tick interval (getD lengths a 0) fences (arcSpeeds fences speeds a) → reckoned ≡ arrivalOn fences lengths speeds a tick
+  pub leaves : Leaves a head reckoned before after
+
+-- ---- The offers of a junction's arcs
+
+-- What they are handed: an arc or none, and links that lead from each arc to a later one or to none.
+pub record Drivable (first : ℕ) (fences heads lengths speeds next : List ℕ) (before : Tables) : Type 0 where
+  pub few-arcs : length heads ≤ maxArcs
+  pub few-intervals : length fences ≤ maxIntervals
+  pub lengths-long : length lengths ≡ length heads
+  pub speeds-long : length speeds ≡ length heads * length fences
+  pub few-junctions : length (before .labels) ≤ maxJunctions
+  pub predecessors-long : length (before .predecessors) ≡ length (before .labels)
+  pub head-below : (a : ℕ) → a < length heads → getD heads a 0 < length (before .labels)
+  pub first-is : (first ≡ noArc → ⊥) → first < length heads
+  pub next-is : (a : ℕ) → a < length heads → (getD next a 0 ≡ noArc → ⊥) → (a < getD next a 0) × (getD next a 0 < length heads)
+  pub tournament : Tournament (before .tree)
+
+-- From arc a on along the links, each arc to a head that is not settled has made its offer, one after the other.
+pub data AllOffered (fences heads lengths speeds next : List ℕ) (settled : List Bool) (tick interval : ℕ) : ℕ → Tables → Tables → Type 0 where
+  none-left : {t : Tables} → AllOffered fences heads lengths speeds next settled tick interval noArc t t
+  skips : {a : ℕ} {t u : Tables} → (a ≡ noArc → ⊥) → getD settled (getD heads a 0) false ≡ true →
+      AllOffered fences heads lengths speeds next settled tick interval (getD next a 0) t u →
+      AllOffered fences heads lengths speeds next settled tick interval a t u
+  offers : {a : ℕ} {t v u : Tables} → (a ≡ noArc → ⊥) → getD settled (getD heads a 0) false ≡ false →
+      Offered fences lengths speeds a (getD heads a 0) tick interval t v →
+      AllOffered fences heads lengths speeds next settled tick interval (getD next a 0) v u →
+      AllOffered fences heads lengths speeds next settled tick interval a t u

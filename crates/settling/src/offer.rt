@@ -1,0 +1,106 @@
+// The offers of a settled junction's arcs: each arc's arrival may lower its head's label.
+ghost use mathlib.Core.Path.{_≡_};
+ghost use Rattle.model.specs.Ticks.{arrivedAt};
+ghost use Rattle.settling.specs.code.Offering.{tables, labelOf, Offerable, Offered, Drivable, AllOffered};
+use driving::drive::drive;
+use model::label::NO_ARC;
+use model::label::UNREACHED;
+use model::limit::MAX_ARCS;
+use model::limit::MAX_JUNCTIONS;
+use model::tick::Arrival;
+use tournament::tree::NODES;
+use tournament::tree::enter;
+use tournament::tree::key_of;
+
+// The arrival as a label.
+fn label_of(arrival: Arrival) -> u32
+    ensures { λ r. ⌜ r ≡ labelOf (arrivedAt arrival) ⌝ }
+{
+    match arrival {
+        Arrival::At(tick) => tick.number,
+        Arrival::Never => UNREACHED,
+    }
+}
+
+// Drives an arc from its tail's label: an earlier arrival lowers its head's label, and of the arcs that arrive at the label
+// the lowest-numbered is the predecessor. A head whose label is lowered gets that label's key.
+fn offer(
+    a: u16,
+    head: usize,
+    tick: u32,
+    interval: usize,
+    fences: &[u32],
+    lengths: &[u32],
+    speeds: &[u8],
+    labels: &mut [u32],
+    predecessors: &mut [u16],
+    tree: &mut [u32; NODES],
+)
+    requires { ⌜ Offerable a head (now fences) (now lengths) (now speeds) (tables (now labels) (now predecessors) (now tree)) ⌝ }
+    ensures { λ _. ⌜ Offered (now (fences .entry)) (now (lengths .entry)) (now (speeds .entry)) a head tick interval
+        (tables (now (labels .entry)) (now (predecessors .entry)) (now (tree .entry)))
+        (tables (now (labels .exit)) (now (predecessors .exit)) (now (tree .exit))) ⌝ }
+{
+    let arc = a as usize;
+    let from = arc * fences.len();
+    let to = from + fences.len();
+    let arrival = label_of(drive(tick, interval, lengths[arc], fences, &speeds[from..to]));
+    let label = labels[head];
+    if arrival < label {
+        labels[head] = arrival;
+        predecessors[head] = a;
+        enter(tree, head, key_of(arrival, head));
+        return;
+    }
+    if arrival == UNREACHED {
+        return;
+    }
+    if arrival == label {
+        if a < predecessors[head] {
+            predecessors[head] = a;
+        }
+    }
+}
+
+// Drives a settled junction's arcs, from its first on along the links, to the heads that are not settled.
+pub(crate) fn offer_arcs(
+    first: u16,
+    tick: u32,
+    interval: usize,
+    fences: &[u32],
+    heads: &[u16],
+    lengths: &[u32],
+    speeds: &[u8],
+    next: &[u16; MAX_ARCS],
+    settled: &[bool; MAX_JUNCTIONS],
+    labels: &mut [u32],
+    predecessors: &mut [u16],
+    tree: &mut [u32; NODES],
+)
+    requires { ⌜ Drivable first (now fences) (now heads) (now lengths) (now speeds) (now next) (tables (now labels) (now predecessors) (now tree)) ⌝ }
+    ensures { λ _. ⌜ AllOffered (now (fences .entry)) (now (heads .entry)) (now (lengths .entry)) (now (speeds .entry)) (now (next .entry)) (now (settled .entry)) tick interval
+        first (tables (now (labels .entry)) (now (predecessors .entry)) (now (tree .entry)))
+        (tables (now (labels .exit)) (now (predecessors .exit)) (now (tree .exit))) ⌝ }
+{
+    let mut a = first;
+    while a != NO_ARC {
+        let arc = a as usize;
+        let head = heads[arc] as usize;
+        // A settled junction's label is no later than the tick, and driving takes time: an arc to it arrives later.
+        if !settled[head] {
+            offer(
+                a,
+                head,
+                tick,
+                interval,
+                fences,
+                lengths,
+                speeds,
+                labels,
+                predecessors,
+                tree,
+            );
+        }
+        a = next[arc];
+    }
+}

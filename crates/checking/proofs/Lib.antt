@@ -1,5 +1,5 @@
-pub mod Asked
 pub mod EndsScan
 pub mod Flags
+pub mod KeptSoFar
 pub mod QuestionRules
 pub mod Scan

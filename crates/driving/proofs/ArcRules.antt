@@ -1,7 +1,7 @@
 -- Arc arrival's rules: no test fires exactly where the plain rules hold, and then the engine, from the departure's interval on, gives
 -- the reply.
 use Prim.Native.Nat.{ℕ, _+_, _-_, _<_}
-use mathlib.Core.Path.{_≡_, sym, ap, _∙_}
+use mathlib.Core.Path.{_≡_, refl, sym, ap, _∙_}
 use mathlib.Core.Bool.{not}
 use mathlib.Core.List.{List}
 use mathlib.Core.Option.{Option}
@@ -13,7 +13,7 @@ use Rattle.model.specs.Ticks.{last, tick?, arrivedAt}
 use Rattle.model.specs.declared.tick.Arrival.{Arrival}
 use Rattle.model.specs.Flow.{spansOf, arrival}
 use Rattle.model.specs.Intervals.{passed, speedAt}
-use Rattle.model.specs.Rules.{AllKept, replied, every, fencesKeep, lengthKeeps, speedKeeps}
+use Rattle.model.specs.Rules.{AllKept, replied, firstBroken, every, fencesKeep, lengthKeeps, speedKeeps}
 use Rattle.model.proofs.Rules.{kept-replies, replies-kept, kept-count, count-kept, kept-length, length-kept, every-at, at-every, fences-kept, kept-fences}
 use Rattle.model.proofs.IntervalPieces.{some-passed}
 use Rattle.driving.specs.ArcKept.{ArcKept}
@@ -53,9 +53,12 @@ module _ (departure metres : ℕ) (fences speeds : List ℕ) where
   abbrev reply : Option ℕ
   reply = tick? (arrival (speedAt fences speeds) (spansOf metres) departure)
 
-  pub replies : AllKept (arcRules departure metres fences speeds) → arcArrival departure metres fences speeds ≡ replied reply
+  pub by-rules : arcArrival departure metres fences speeds ≡ firstBroken (arcRules departure metres fences speeds) reply
   unfolding arcArrival
-  replies kept = kept-replies (arcRules departure metres fences speeds) reply kept
+  by-rules = refl
+
+  replies : AllKept (arcRules departure metres fences speeds) → arcArrival departure metres fences speeds ≡ replied reply
+  replies kept = by-rules ∙ kept-replies (arcRules departure metres fences speeds) reply kept
 
   -- The engine is handed the interval before the fences that the departure has reached.
   module _ (kept : AllKept (arcRules departure metres fences speeds)) {reached : ℕ} (counted : reached ≡ 0 + passed fences departure) where

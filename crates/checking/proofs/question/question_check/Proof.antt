@@ -1,16 +1,17 @@
 -- `question::question_check` meets its definition: Network check's refusal is its own, then each test is the rule's.
 use borrow.Author.Needs.{needs}
-use mathlib.Core.Path.{sym, ap, _∙_}
+use Prim.Native.Nat.{ℕ}
+use mathlib.Core.Path.{_≡_, refl, sym, ap, _∙_}
 use mathlib.Core.Bool.{not}
 use denote.Ref.{now}
 use borrow.Author.Tests.{lt-ltb, le-ltb}
 use Rattle.model.specs.Network.{Network, network}
 use Rattle.model.specs.NetworkRules.{networkRules, networkCheck}
-use Rattle.model.specs.Rules.{AllKept}
-use Rattle.model.proofs.Rules.{kept-replies, replies-kept}
+use Rattle.model.specs.Rules.{firstBroken, AllKept}
+use Rattle.model.proofs.Rules.{replies-kept}
 use Rattle.checking.specs.NetworkCheck.{outcomeOf}
-use Rattle.checking.specs.Question.{startRules, questionCheck}
-use Rattle.checking.proofs.Asked.{Asked, others-asked, next-kept, next-refused}
+use Rattle.checking.specs.Question.{startRules, questionRules, questionCheck}
+use Rattle.checking.proofs.KeptSoFar.{KeptSoFar, others-kept, next-kept, next-refused, all-kept}
 use Rattle.checking.proofs.QuestionRules.{network-refuses}
 use Rattle.checking.proofs.question.question_check.Statement.{statement}
 use Rattle.checking.proofs.question.question_check.Tie as tie
@@ -28,29 +29,24 @@ accepted : (c : tie.After-enum-told) → AllKept (networkRules (N c))
 unfolding networkCheck
 accepted c = replies-kept _ tt tt (sym (c .before .before .network-check .ensures) ∙ ap outcomeOf (c .enum-told .given .1))
 
-abbrev asked₈ : tie.After-enum-told → Asked 8
-asked₈ c = others-asked (networkRules (N c)) (startRules (N c) (start c .args .source) (start c .args .tick)) (accepted c)
+by-rules : (n : Network) (source departure : ℕ) → questionCheck n source departure ≡ firstBroken (questionRules n source departure) tt
+unfolding questionCheck
+by-rules n source departure = refl
 
-abbrev asked₉ : tie.Else1 → Asked 9
-asked₉ c = next-kept (asked₈ (c .before)) (ap not (lt-ltb _ _ (c .if1 .left)))
+abbrev kept₈ : tie.After-enum-told → KeptSoFar 8
+kept₈ c =
+    let source = start c .args .source in
+    let departure = start c .args .tick in
+    others-kept tt (networkRules (N c)) (startRules (N c) source departure) (by-rules (N c) source departure) (accepted c)
 
-abbrev asked₁₀ : tie.Else2 → Asked 10
-asked₁₀ c = next-kept (asked₉ (c .before)) (ap not (lt-ltb _ _ (c .if2 .left)))
+abbrev kept₉ : tie.Else1 → KeptSoFar 9
+kept₉ c = next-kept (kept₈ (c .before)) (ap not (lt-ltb _ _ (c .if1 .left)))
+
+abbrev kept₁₀ : tie.Else2 → KeptSoFar 10
+kept₁₀ c = next-kept (kept₉ (c .before)) (ap not (lt-ltb _ _ (c .if2 .left)))
 
 returns : tie.Need-returns
 returns c = network-refuses _ _ _ _ (sym (ap outcomeOf (c .before .refusal .given .1)) ∙ c .before .before .before .network-check .ensures)
-
-returns-2 : tie.Need-returns-2
-unfolding questionCheck
-returns-2 c = next-refused (asked₈ (c .before)) tt (ap not (le-ltb _ _ (c .if1 .taken)))
-
-returns-3 : tie.Need-returns-3
-unfolding questionCheck
-returns-3 c = next-refused (asked₉ (c .before)) tt (ap not (le-ltb _ _ (c .if2 .taken)))
-
-returns-4 : tie.Need-returns-4
-unfolding questionCheck
-returns-4 c = sym (kept-replies (asked₁₀ c .rules) tt (asked₁₀ c .kept))
 
 pub question-check-spec : {M : Type 1} → statement M
 question-check-spec =
@@ -60,6 +56,6 @@ question-check-spec =
     (λ c. search needs)
     returns
     (λ c. search needs)
-    returns-2
-    returns-3
-    returns-4)
+    (λ c. next-refused (kept₈ (c .before)) (ap not (le-ltb _ _ (c .if1 .taken))))
+    (λ c. next-refused (kept₉ (c .before)) (ap not (le-ltb _ _ (c .if2 .taken))))
+    (λ c. all-kept (kept₁₀ c) refl))

@@ -7,14 +7,14 @@ use mathlib.Core.List.{List}
 use mathlib.Core.Option.{Option}
 use native.Mathlib.Omega.{arith}
 use lib.Dec.{eqb}
-use lib.ListN.{length, getD}
-use borrow.Author.Tests.{not-false, leb-true, eqb-true, ltb-false, le-leb, eq-eqb, le-ltb}
+use lib.ListN.{length}
+use borrow.Author.Tests.{not-false, eqb-true, ltb-false, eq-eqb, le-ltb}
 use Rattle.model.specs.Ticks.{last, tick?, arrivedAt}
 use Rattle.model.specs.declared.tick.Arrival.{Arrival}
 use Rattle.model.specs.Flow.{spansOf, arrival}
 use Rattle.model.specs.Intervals.{passed, speedAt}
-use Rattle.model.specs.Rules.{AllKept, replied, firstBroken, every, fencesKeep, lengthKeeps, speedKeeps}
-use Rattle.model.proofs.Rules.{kept-replies, replies-kept, kept-count, count-kept, kept-length, length-kept, every-at, at-every, fences-kept, kept-fences}
+use Rattle.model.specs.Rules.{AllKept, replied, firstBroken, fencesKeep, lengthKeeps}
+use Rattle.model.proofs.Rules.{kept-replies, replies-kept, kept-count, count-kept, kept-length, length-kept, kept-speeds, speeds-kept, fences-kept, kept-fences}
 use Rattle.model.proofs.IntervalPieces.{some-passed}
 use Rattle.driving.specs.ArcKept.{ArcKept}
 use Rattle.driving.specs.ArcArrival.{arcRules, arcArrival, ArcAccepted, ArcRepliesWhenAccepted}
@@ -31,24 +31,18 @@ module _ (departure metres : ℕ) (fences speeds : List ℕ) where
         fences-kept = fences-kept fences (not-false (fencesKeep fences) (kept .1 .1 .0));
         some-length = size .0;
         length-fits = size .1;
-        speed-fits = λ k h. leb-true (getD speeds k 0) 200 (every-at speedKeeps 0 speeds (not-false (every speedKeeps speeds) (kept .1 .1 .1 .1 .0)) k h);
+        speed-fits = kept-speeds speeds (kept .1 .1 .1 .1 .0);
         in-time = ltb-false last departure (kept .1 .1 .1 .1 .1 .0);
       }
 
   pub accepted-kept : ArcAccepted departure metres fences speeds → AllKept (arcRules departure metres fences speeds)
-  accepted-kept a = (
-    count-kept fences (a .some-interval) (a .intervals-fit),
-    (
-      ap not (eq-eqb (length speeds) (length fences) (a .as-many)),
-      (
-        ap not (kept-fences fences (a .fences-kept)),
-        (
-          ap not (length-kept metres (a .some-length) (a .length-fits)),
-          (ap not (at-every speedKeeps 0 speeds (λ k h. le-leb (getD speeds k 0) 200 (a .speed-fits k h))), (le-ltb last departure (a .in-time), tt)),
-        ),
-      ),
-    ),
-  )
+  accepted-kept a =
+      let count = count-kept fences (a .some-interval) (a .intervals-fit) in
+      let as-many = eq-eqb (length speeds) (length fences) (a .as-many) in
+      let fences-keep = kept-fences fences (a .fences-kept) in
+      let length-keeps = length-kept metres (a .some-length) (a .length-fits) in
+      let in-time = le-ltb last departure (a .in-time) in
+      (count, (ap not as-many, (ap not fences-keep, (ap not length-keeps, (speeds-kept speeds (a .speed-fits), (in-time, tt))))))
 
   abbrev reply : Option ℕ
   reply = tick? (arrival (speedAt fences speeds) (spansOf metres) departure)

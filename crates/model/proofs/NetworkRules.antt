@@ -7,11 +7,11 @@ use native.Mathlib.Omega.{arith}
 use lib.Dec.{leb, ltb, eqb}
 use lib.ListN.{length, getD}
 use borrow.Author.Tests.{not-true, not-false, ltb-true, ltb-false, leb-true, eqb-true, eqb-false, lt-ltb, le-ltb, le-leb, eq-eqb, ne-eqb}
-use Rattle.model.specs.Limits.{maxJunctions, maxArcs, maxLength, maxSpeed}
+use Rattle.model.specs.Limits.{maxJunctions, maxArcs, maxLength}
 use Rattle.model.specs.Network.{Network, arcs, intervals, Accepted}
 use Rattle.model.specs.NetworkRules.{junctionsKeep, tablesAgree, endsKeep, networkRules, networkCheck, AcceptsWhenKept}
-use Rattle.model.specs.Rules.{AllKept, every, fencesKeep, lengthKeeps, speedKeeps}
-use Rattle.model.proofs.Rules.{kept-replies, replies-kept, true-both, both-true, kept-count, count-kept, kept-length, length-kept, every-at, at-every, fences-kept, kept-fences}
+use Rattle.model.specs.Rules.{AllKept, every, fencesKeep, lengthKeeps}
+use Rattle.model.proofs.Rules.{kept-replies, replies-kept, true-both, true-three, both-true, kept-count, count-kept, kept-length, length-kept, every-at, at-every, kept-speeds, speeds-kept, fences-kept, kept-fences}
 
 -- ---- The ends of the arcs
 
@@ -19,19 +19,20 @@ use Rattle.model.proofs.Rules.{kept-replies, replies-kept, true-both, b
 abbrev EndsKept : ℕ → ℕ → ℕ → Type 0
 EndsKept junctions tail head = (tail < junctions) × (head < junctions) × (tail ≡ head → ⊥)
 
-ends-at : (junctions : ℕ) (tails heads : List ℕ) → endsKeep junctions tails heads ≡ true → length heads ≡ length tails → (a : ℕ) → a < length tails → EndsKept junctions (getD tails a 0) (getD heads a 0)
+ends-at : (junctions : ℕ) (tails heads : List ℕ) → endsKeep junctions tails heads ≡ true → length heads ≡ length tails →
+    (a : ℕ) → a < length tails → EndsKept junctions (getD tails a 0) (getD heads a 0)
 unfolding endsKeep
 ends-at junctions [] heads e same a h = absurd (omega arith)
 ends-at junctions (t ∷ ts) [] e same a h = absurd (omega arith)
 ends-at junctions (t ∷ ts) (g ∷ gs) e same zero h =
-    let parts = true-both (ltb t junctions && ltb g junctions && not (eqb t g)) (endsKeep junctions ts gs) e .0 in
-    let inner = true-both (ltb t junctions && ltb g junctions) (not (eqb t g)) parts in
-    let both = true-both (ltb t junctions) (ltb g junctions) (inner .0) in
-    (ltb-true t junctions (both .0), ltb-true g junctions (both .1), eqb-false t g (not-true (eqb t g) (inner .1)))
+    let here = true-three (ltb t junctions) (ltb g junctions) (not (eqb t g)) (true-both _ (endsKeep junctions ts gs) e .0) in
+    (ltb-true t junctions (here .0), ltb-true g junctions (here .1), eqb-false t g (not-true (eqb t g) (here .2)))
 ends-at junctions (t ∷ ts) (g ∷ gs) e same (suc a) h =
-    ends-at junctions ts gs (true-both (ltb t junctions && ltb g junctions && not (eqb t g)) (endsKeep junctions ts gs) e .1) (omega arith) a (omega arith)
+    let rest = true-both (ltb t junctions && ltb g junctions && not (eqb t g)) (endsKeep junctions ts gs) e .1 in
+    ends-at junctions ts gs rest (omega arith) a (omega arith)
 
-at-ends : (junctions : ℕ) (tails heads : List ℕ) → ((a : ℕ) → a < length tails → a < length heads → EndsKept junctions (getD tails a 0) (getD heads a 0)) → endsKeep junctions tails heads ≡ true
+at-ends : (junctions : ℕ) (tails heads : List ℕ) →
+    ((a : ℕ) → a < length tails → a < length heads → EndsKept junctions (getD tails a 0) (getD heads a 0)) → endsKeep junctions tails heads ≡ true
 unfolding endsKeep
 at-ends junctions [] heads kept = refl
 at-ends junctions (t ∷ ts) [] kept = refl
@@ -41,14 +42,25 @@ at-ends junctions (t ∷ ts) (g ∷ gs) kept =
     (both-true (both-true (lt-ltb t junctions (here .0)) (lt-ltb g junctions (here .1))) (ap not (ne-eqb t g (here .2))))
     (at-ends junctions ts gs (λ a h h′. kept (suc a) (omega arith) (omega arith)))
 
+-- ---- The lengths
+
+-- The rule on one length.
+abbrev LengthKept : ℕ → Type 0
+LengthKept metres = (1 ≤ metres) × (metres ≤ maxLength)
+
+kept-lengths : (lengths : List ℕ) → not (every lengthKeeps lengths) ≡ false → (a : ℕ) → a < length lengths → LengthKept (getD lengths a 0)
+kept-lengths lengths e a h = kept-length (getD lengths a 0) (every-at lengthKeeps 0 lengths (not-false (every lengthKeeps lengths) e) a h)
+
+lengths-kept : (lengths : List ℕ) → ((a : ℕ) → a < length lengths → LengthKept (getD lengths a 0)) → not (every lengthKeeps lengths) ≡ false
+lengths-kept lengths kept = ap not (at-every lengthKeeps 0 lengths (λ a h. length-kept (getD lengths a 0) (kept a h .0) (kept a h .1)))
+
 -- ---- All rules
 
 pub kept-tables : (fences tails heads lengths speeds : List ℕ) → not (tablesAgree fences tails heads lengths speeds) ≡ false →
     (length heads ≡ length tails) × (length lengths ≡ length tails) × (length speeds ≡ length tails * length fences)
 kept-tables fences tails heads lengths speeds e =
-    let all = true-both (eqb (length heads) (length tails) && eqb (length lengths) (length tails)) (eqb (length speeds) (length tails * length fences)) (not-false (tablesAgree fences tails heads lengths speeds) e) in
-    let two = true-both (eqb (length heads) (length tails)) (eqb (length lengths) (length tails)) (all .0) in
-    (eqb-true (length heads) (length tails) (two .0), eqb-true (length lengths) (length tails) (two .1), eqb-true (length speeds) (length tails * length fences) (all .1))
+    let long = true-three _ _ _ (not-false (tablesAgree fences tails heads lengths speeds) e) in
+    (eqb-true (length heads) (length tails) (long .0), eqb-true (length lengths) (length tails) (long .1), eqb-true (length speeds) (length tails * length fences) (long .2))
 
 module _ (N : Network) where
   pub kept-accepted : AllKept (networkRules N) → Accepted N
@@ -56,8 +68,9 @@ module _ (N : Network) where
       let count = true-both (ltb 0 (N .junctions)) (leb (N .junctions) maxJunctions) (not-false (junctionsKeep (N .junctions)) (kept .0)) in
       let fences = kept-count (N .fences) (kept .1 .0) in
       let long = kept-tables (N .fences) (N .tails) (N .heads) (N .lengths) (N .speeds) (kept .1 .1 .1 .0) in
-      let ends = ends-at (N .junctions) (N .tails) (N .heads) (not-false (endsKeep (N .junctions) (N .tails) (N .heads)) (kept .1 .1 .1 .1 .1 .0)) (long .0) in
-      let metres : (a : ℕ) → a < arcs N → (1 ≤ getD (N .lengths) a 0) × (getD (N .lengths) a 0 ≤ maxLength) = (λ a h. kept-length (getD (N .lengths) a 0) (every-at lengthKeeps 0 (N .lengths) (not-false (every lengthKeeps (N .lengths)) (kept .1 .1 .1 .1 .1 .1 .0)) a (omega (arith, long .1)))) in
+      let all-ends = not-false (endsKeep (N .junctions) (N .tails) (N .heads)) (kept .1 .1 .1 .1 .1 .0) in
+      let ends = ends-at (N .junctions) (N .tails) (N .heads) all-ends (long .0) in
+      let metres = kept-lengths (N .lengths) (kept .1 .1 .1 .1 .1 .1 .0) in
       record {
         some-junction = ltb-true 0 (N .junctions) (count .0);
         junctions-fit = leb-true (N .junctions) maxJunctions (count .1);
@@ -71,35 +84,27 @@ module _ (N : Network) where
         tail-below = λ a h. ends a h .0;
         head-below = λ a h. ends a h .1;
         ends-differ = λ a h. ends a h .2;
-        some-length = λ a h. metres a h .0;
-        length-fits = λ a h. metres a h .1;
-        speed-fits = λ i h. leb-true (getD (N .speeds) i 0) maxSpeed (every-at speedKeeps 0 (N .speeds) (not-false (every speedKeeps (N .speeds)) (kept .1 .1 .1 .1 .1 .1 .1 .0)) i (omega (arith, long .2)));
+        some-length = λ a h. metres a (omega (arith, long .1)) .0;
+        length-fits = λ a h. metres a (omega (arith, long .1)) .1;
+        speed-fits = λ i h. kept-speeds (N .speeds) (kept .1 .1 .1 .1 .1 .1 .1 .0) i (omega (arith, long .2));
       }
 
   pub accepted-kept : Accepted N → AllKept (networkRules N)
-  accepted-kept a = (
-    ap not (both-true (lt-ltb 0 (N .junctions) (a .some-junction)) (le-leb (N .junctions) maxJunctions (a .junctions-fit))),
-    (
-      count-kept (N .fences) (a .some-interval) (a .intervals-fit),
-      (
-        le-ltb maxArcs (arcs N) (a .arcs-fit),
-        (
-          ap not (both-true (both-true (eq-eqb (length (N .heads)) (arcs N) (a .heads-long)) (eq-eqb (length (N .lengths)) (arcs N) (a .lengths-long))) (eq-eqb (length (N .speeds)) (arcs N * intervals N) (a .speeds-long))),
-          (
-            ap not (kept-fences (N .fences) (a .fences-kept)),
-            (
-              ap not (at-ends (N .junctions) (N .tails) (N .heads) (λ i h h′. (a .tail-below i h, a .head-below i h, a .ends-differ i h))),
-              (
-                ap not (at-every lengthKeeps 0 (N .lengths) (λ i h. length-kept (getD (N .lengths) i 0) (a .some-length i (omega (arith, a .lengths-long))) (a .length-fits i (omega (arith, a .lengths-long))))),
-                (ap not (at-every speedKeeps 0 (N .speeds) (λ i h. le-leb (getD (N .speeds) i 0) maxSpeed (a .speed-fits i (omega (arith, a .speeds-long))))), tt),
-              ),
-            ),
-          ),
-        ),
-      ),
-    ),
-  )
+  accepted-kept a =
+      let count = both-true (lt-ltb 0 (N .junctions) (a .some-junction)) (le-leb (N .junctions) maxJunctions (a .junctions-fit)) in
+      let heads-long = eq-eqb (length (N .heads)) (arcs N) (a .heads-long) in
+      let lengths-long = eq-eqb (length (N .lengths)) (arcs N) (a .lengths-long) in
+      let speeds-long = eq-eqb (length (N .speeds)) (arcs N * intervals N) (a .speeds-long) in
+      let tables = both-true (both-true heads-long lengths-long) speeds-long in
+      let ends = at-ends (N .junctions) (N .tails) (N .heads) (λ i h h′. (a .tail-below i h, a .head-below i h, a .ends-differ i h)) in
+      let fences = kept-fences (N .fences) (a .fences-kept) in
+      let lengths = lengths-kept (N .lengths) (λ i h. (a .some-length i (omega (arith, a .lengths-long)), a .length-fits i (omega (arith, a .lengths-long)))) in
+      let speeds = speeds-kept (N .speeds) (λ i h. a .speed-fits i (omega (arith, a .speeds-long))) in
+      let intervals-kept = count-kept (N .fences) (a .some-interval) (a .intervals-fit) in
+      let arcs-kept = le-ltb maxArcs (arcs N) (a .arcs-fit) in
+      (ap not count, (intervals-kept, (arcs-kept, (ap not tables, (ap not fences, (ap not ends, (lengths, (speeds, tt))))))))
 
 pub accepts-when-kept : AcceptsWhenKept
 unfolding networkCheck
-accepts-when-kept N = ((λ e. kept-accepted N (replies-kept (networkRules N) tt tt e)), (λ a. kept-replies (networkRules N) tt (accepted-kept N a)))
+accepts-when-kept N =
+    ((λ e. kept-accepted N (replies-kept (networkRules N) tt tt e)), (λ a. kept-replies (networkRules N) tt (accepted-kept N a)))

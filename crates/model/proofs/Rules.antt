@@ -9,9 +9,9 @@ use lib.Dec.{leb, ltb, eqb}
 use lib.ListN.{length, getD, take}
 use borrow.Author.Tests.{not-false, ltb-true, leb-true, eqb-true, lt-ltb, le-leb, eq-eqb}
 use Rattle.model.specs.Ticks.{day}
-use Rattle.model.specs.Limits.{maxIntervals, maxLength}
+use Rattle.model.specs.Limits.{maxIntervals, maxLength, maxSpeed}
 use Rattle.model.specs.Intervals.{FencesKept}
-use Rattle.model.specs.Rules.{Outcome, refused, replied, Rule, _if_, firstBroken, AllKept, RefusedExactlyWhen, every, riseFrom, countKeeps, fencesKeep, lengthKeeps}
+use Rattle.model.specs.Rules.{Outcome, refused, replied, Rule, _if_, firstBroken, AllKept, RefusedExactlyWhen, every, riseFrom, countKeeps, fencesKeep, lengthKeeps, speedKeeps}
 
 -- ---- Which rule counts
 
@@ -49,16 +49,18 @@ refused-at [] reply k kept broken = absurd (let z : _≡_ {A = ℕ} 0 1 = cc in 
 refused-at (rule ∷ rules) reply zero kept broken = rw broken
 refused-at (rule ∷ rules) reply (suc k) kept broken = rw (kept .0) (refused-at rules reply k (kept .1) broken)
 
-refused-place : {Reply : Type 0} (rules : List Rule) (reply : Reply) (number : ℕ) → firstBroken rules reply ≡ refused number →
+-- A rule of that number is broken, and those before it are kept.
+abbrev BrokenFirst : List Rule → ℕ → Type 0
+BrokenFirst rules number =
     (k : ℕ) × (k < length rules) × AllKept (take k rules) × ((getD rules k (0 if false)) .broken ≡ true) × ((getD rules k (0 if false)) .number ≡ number)
+
+refused-place : {Reply : Type 0} (rules : List Rule) (reply : Reply) (number : ℕ) → firstBroken rules reply ≡ refused number → BrokenFirst rules number
 unfolding firstBroken
 refused-place [] reply number e = absurd (let z : _≡_ {A = ℕ} 0 1 = cc in omega arith)
 refused-place (rule ∷ rules) reply number e = go (rule .broken) refl (refused-place rules reply number) e
   where
-    go : (broken : Bool) → rule .broken ≡ broken →
-        (firstBroken rules reply ≡ refused number → (k : ℕ) × (k < length rules) × AllKept (take k rules) × ((getD rules k (0 if false)) .broken ≡ true) × ((getD rules k (0 if false)) .number ≡ number)) →
-        cond broken (refused (rule .number)) (firstBroken rules reply) ≡ refused number →
-        (k : ℕ) × (k < suc (length rules)) × AllKept (take k (rule ∷ rules)) × ((getD (rule ∷ rules) k (0 if false)) .broken ≡ true) × ((getD (rule ∷ rules) k (0 if false)) .number ≡ number)
+    go : (broken : Bool) → rule .broken ≡ broken → (firstBroken rules reply ≡ refused number → BrokenFirst rules number) →
+        cond broken (refused (rule .number)) (firstBroken rules reply) ≡ refused number → BrokenFirst (rule ∷ rules) number
     go true b rest e = (0, omega arith, tt, b, cc)
     go false b rest e = let r = rest e in (suc (r .0), omega (arith, r .1), (b, r .2), r .3, r .4)
 
@@ -67,7 +69,8 @@ refused-exactly-when Reply rules reply number =
     (refused-place rules reply number, (λ r. sym (refused-at rules reply (r .0) (r .2) (r .3)) ∙ ap refused (r .4)))
 
 -- A list of rules with more behind it: where the first list refuses, so does the whole; where it is kept, the rest decides.
-pub refused-before : {Reply Reply′ : Type 0} (rules more : List Rule) (reply : Reply) (reply′ : Reply′) (number : ℕ) → firstBroken rules reply ≡ refused number → firstBroken (rules ++ more) reply′ ≡ refused number
+pub refused-before : {Reply Reply′ : Type 0} (rules more : List Rule) (reply : Reply) (reply′ : Reply′) (number : ℕ) →
+    firstBroken rules reply ≡ refused number → firstBroken (rules ++ more) reply′ ≡ refused number
 unfolding firstBroken
 refused-before [] more reply reply′ number e = absurd (let z : _≡_ {A = ℕ} 0 1 = cc in omega arith)
 refused-before (rule ∷ rules) more reply reply′ number e = go (rule .broken) (refused-before rules more reply reply′ number) e
@@ -94,6 +97,12 @@ both-true p q = rw (p, q)
 pub true-both : (a b : Bool) → (a && b) ≡ true → (a ≡ true) × (b ≡ true)
 true-both true b e = (refl, e)
 true-both false b e = absurd (let z : _≡_ {A = ℕ} 0 1 = cc in omega arith)
+
+pub true-three : (a b c : Bool) → (a && b && c) ≡ true → (a ≡ true) × (b ≡ true) × (c ≡ true)
+true-three a b c e =
+    let parts = true-both (a && b) c e in
+    let first = true-both a b (parts .0) in
+    (first .0, first .1, parts .1)
 
 pub kept-count : (fences : List ℕ) → not (countKeeps fences) ≡ false → (1 ≤ length fences) × (length fences ≤ maxIntervals)
 kept-count fences e =
@@ -125,15 +134,21 @@ module _ {A : Type 0} (test : A → Bool) (d : A) where
   at-every [] all = refl
   at-every (x ∷ xs) all = both-true (all 0 (omega arith)) (at-every xs (λ k h. all (suc k) (omega arith)))
 
+pub kept-speeds : (speeds : List ℕ) → not (every speedKeeps speeds) ≡ false → (k : ℕ) → k < length speeds → getD speeds k 0 ≤ maxSpeed
+kept-speeds speeds e k h = leb-true (getD speeds k 0) maxSpeed (every-at speedKeeps 0 speeds (not-false (every speedKeeps speeds) e) k h)
+
+pub speeds-kept : (speeds : List ℕ) → ((k : ℕ) → k < length speeds → getD speeds k 0 ≤ maxSpeed) → not (every speedKeeps speeds) ≡ false
+speeds-kept speeds fit = ap not (at-every speedKeeps 0 speeds (λ k h. le-leb (getD speeds k 0) maxSpeed (fit k h)))
+
 -- ---- The fences
 
 rise-at : (before : ℕ) (fences : List ℕ) → riseFrom before fences ≡ true → (k : ℕ) → k < length fences → (getD (before ∷ fences) k 0 < getD fences k 0) × (getD fences k 0 < day)
 unfolding riseFrom
 rise-at before [] e k h = absurd (omega arith)
 rise-at before (f ∷ fs) e zero h =
-    let here = true-both (ltb before f) (ltb f day) (true-both (ltb before f && ltb f day) (riseFrom f fs) e .0) in
-    (ltb-true before f (here .0), ltb-true f day (here .1))
-rise-at before (f ∷ fs) e (suc k) h = rise-at f fs (true-both (ltb before f && ltb f day) (riseFrom f fs) e .1) k (omega arith)
+    let parts = true-three (ltb before f) (ltb f day) (riseFrom f fs) e in
+    (ltb-true before f (parts .0), ltb-true f day (parts .1))
+rise-at before (f ∷ fs) e (suc k) h = rise-at f fs (true-three (ltb before f) (ltb f day) (riseFrom f fs) e .2) k (omega arith)
 
 at-rise : (before : ℕ) (fences : List ℕ) → ((k : ℕ) → k < length fences → (getD (before ∷ fences) k 0 < getD fences k 0) × (getD fences k 0 < day)) → riseFrom before fences ≡ true
 unfolding riseFrom

@@ -1,5 +1,5 @@
 -- Load accepts a text that describes a town where the tables are long enough: the counts that it ends with are the town's. Where they
--- are not it says 28, and of no other text, since no fault of a text has that number.
+-- are not it says 28, and of no other text, since no fault of a text has that number (`described-unless-fault`).
 use Prim.Native.Nat.{ℕ, _*_}
 use mathlib.Core.Path.{_≡_, refl, sym, ap, _∙_}
 use mathlib.Core.Bool.{Bool, true, false, cond, _||_}
@@ -15,7 +15,7 @@ use Rattle.townfile.specs.declared.progress.Progress.{Progress}
 use Rattle.townfile.proofs.Order.{afterAll}
 use Rattle.townfile.proofs.Turns.{town-counted}
 use Rattle.townfile.proofs.Described.{described-faultless, described-town, faultless-described}
-use Rattle.townfile.proofs.FaultNumbers.{text-fault}
+use Rattle.townfile.proofs.FaultNumbers.{Fault, text-fault}
 
 -- ---- Long enough
 
@@ -65,16 +65,20 @@ town-counts T =
     let counted = town-counted T in
     rw (counted .junctions-counted, counted .intervals-counted, counted .arcs-counted, length-map (T .arcs) (λ a. a .tail))
 
--- The answer from the counts.
-abbrev answerFor : Counts → Tables → Reading Counts
-answerFor counts lent = cond (tooShort counts lent) (refusedAt 28 0) (accepted counts)
+-- The answer from the counts, by whether a table is too short.
+abbrev answerBy : Bool → Counts → Reading Counts
+answerBy short counts = cond short (refusedAt 28 0) (accepted counts)
 
-answer-accepted : (counts counts′ : Counts) (lent : Tables) → answerFor counts lent ≡ accepted counts′ → (tooShort counts lent ≡ false) × (counts′ ≡ counts)
-answer-accepted counts counts′ lent e = go (tooShort counts lent) refl e
-  where
-    go : (test : Bool) → tooShort counts lent ≡ test → cond test (refusedAt 28 0) (accepted counts) ≡ accepted counts′ → (tooShort counts lent ≡ false) × (counts′ ≡ counts)
-    go true t e = absurd (let z : _≡_ {A = ℕ} 0 1 = cc in omega arith)
-    go false t e = (t, cc)
+abbrev answerFor : Counts → Tables → Reading Counts
+answerFor counts lent = answerBy (tooShort counts lent) counts
+
+answer-accepted : (short : Bool) (counts reply : Counts) → answerBy short counts ≡ accepted reply → (short ≡ false) × (reply ≡ counts)
+answer-accepted true counts reply e = absurd (let z : _≡_ {A = ℕ} 0 1 = cc in omega arith)
+answer-accepted false counts reply e = (refl, cc)
+
+answer-refused : (short : Bool) (counts : Counts) (number line : ℕ) → answerBy short counts ≡ refusedAt number line → (short ≡ true) × (line ≡ 0)
+answer-refused true counts number line e = (refl, cc)
+answer-refused false counts number line e = absurd (let z : _≡_ {A = ℕ} 0 1 = cc in omega arith)
 
 -- ---- Load
 
@@ -82,56 +86,51 @@ pub described-answer : {text : List ℕ} {T : Town} (lent : Tables) → Describe
 unfolding loadAnswer
 described-answer {T = T} lent described = rw (described-faultless described) (ap (λ counts. answerFor counts lent) (town-counts T))
 
-described-when-loaded : {text : List ℕ} (lent : Tables) (counts : Counts) → Bytes text → loadAnswer text lent ≡ accepted counts → (T : Town) × Describes text T
+-- An answer that no fault of a text gives is given of a town.
+described-unless-fault : {text : List ℕ} (lent : Tables) {answer : Reading Counts} → Bytes text → loadAnswer text lent ≡ answer →
+    ((number line : ℕ) → Fault number → refusedAt number line ≡ answer → ⊥) → (T : Town) × Describes text T
 unfolding loadAnswer
-described-when-loaded {text} lent counts bytes e = go (firstFault text) refl e
+described-unless-fault {text} lent {answer} bytes e no-fault = go (firstFault text) refl e
   where
-    go : (reading : Reading Progress) → firstFault text ≡ reading → intoTables reading lent ≡ accepted counts → (T : Town) × Describes text T
-    go (refusedAt number line) r e = absurd (let z : _≡_ {A = ℕ} 0 1 = cc in omega arith)
+    go : (reading : Reading Progress) → firstFault text ≡ reading → intoTables reading lent ≡ answer → (T : Town) × Describes text T
+    go (refusedAt number line) r e = absurd (no-fault number line (text-fault text number line r) e)
     go (accepted p) r e = faultless-described bytes r
 
-holds-town : {text : List ℕ} {T : Town} (lent : Tables) (counts : Counts) → Describes text T → loadAnswer text lent ≡ accepted counts → tablesAfter text lent ≡ holding (networkOf T) lent
+holds-town : {text : List ℕ} {T : Town} (lent : Tables) (counts : Counts) → Describes text T → loadAnswer text lent ≡ accepted counts →
+    tablesAfter text lent ≡ holding (networkOf T) lent
 unfolding tablesAfter
 holds-town lent counts described e = rw (e, described-town described)
 
 pub load-accepts-when-described : LoadAcceptsWhenDescribed
 load-accepts-when-described text bytes lent counts = (
   (λ e.
-      let found = described-when-loaded lent counts bytes e in
+      let found = described-unless-fault lent bytes e (λ number line fault e. let z : _≡_ {A = ℕ} 0 1 = cc in omega arith) in
       let T = found .0 in
-      let answer = answer-accepted (countsOfTown T) counts lent (sym (described-answer lent (found .1)) ∙ e) in
+      let answer = answer-accepted (tooShort (countsOfTown T) lent) (countsOfTown T) counts (sym (described-answer lent (found .1)) ∙ e) in
       (T, found .1, fits-long T lent (answer .0), answer .1, holds-town lent counts (found .1) e)),
   (λ loaded. described-answer lent (loaded .1) ∙ rw (long-fits (loaded .0) lent (loaded .2), loaded .3)),
 )
 
-too-short-answer : (counts : Counts) (lent : Tables) (line : ℕ) → answerFor counts lent ≡ refusedAt 28 line → (tooShort counts lent ≡ true) × (line ≡ 0)
-too-short-answer counts lent line e = go (tooShort counts lent) refl e
-  where
-    go : (test : Bool) → tooShort counts lent ≡ test → cond test (refusedAt 28 0) (accepted counts) ≡ refusedAt 28 line → (tooShort counts lent ≡ true) × (line ≡ 0)
-    go true t e = (t, cc)
-    go false t e = absurd (let z : _≡_ {A = ℕ} 0 1 = cc in omega arith)
+-- A table is too short exactly where not each is long enough.
+short-not-long : (T : Town) (lent : Tables) → tooShort (countsOfTown T) lent ≡ true → LongEnough (countsOfTown T) lent → ⊥
+short-not-long T lent short long =
+    let both : true ≡ false = sym short ∙ long-fits T lent long in
+    let z : _≡_ {A = ℕ} 0 1 = cc in
+    omega arith
 
-not-long : (T : Town) (lent : Tables) → (LongEnough (countsOfTown T) lent → ⊥) → tooShort (countsOfTown T) lent ≡ true
-not-long T lent short = go (tooShort (countsOfTown T) lent) refl
+not-long-short : (T : Town) (lent : Tables) → (LongEnough (countsOfTown T) lent → ⊥) → tooShort (countsOfTown T) lent ≡ true
+not-long-short T lent not-long = go (tooShort (countsOfTown T) lent) refl
   where
-    go : (test : Bool) → tooShort (countsOfTown T) lent ≡ test → test ≡ true
+    go : (short : Bool) → tooShort (countsOfTown T) lent ≡ short → short ≡ true
     go true t = refl
-    go false t = absurd (short (fits-long T lent t))
-
-described-when-short : {text : List ℕ} (lent : Tables) (line : ℕ) → Bytes text → loadAnswer text lent ≡ refusedAt 28 line → (T : Town) × Describes text T
-unfolding loadAnswer
-described-when-short {text} lent line bytes e = go (firstFault text) refl e
-  where
-    go : (reading : Reading Progress) → firstFault text ≡ reading → intoTables reading lent ≡ refusedAt 28 line → (T : Town) × Describes text T
-    go (refusedAt number at) r e = absurd (let same : number ≡ 28 = cc in omega (arith, text-fault text number at r .1))
-    go (accepted p) r e = faultless-described bytes r
+    go false t = absurd (not-long (fits-long T lent t))
 
 pub too-short-when-described : TooShortWhenDescribed
 too-short-when-described text bytes lent line = (
   (λ e.
-      let found = described-when-short lent line bytes e in
+      let found = described-unless-fault lent bytes e (λ number line fault e. let same : number ≡ 28 = cc in omega arith) in
       let T = found .0 in
-      let answer = too-short-answer (countsOfTown T) lent line (sym (described-answer lent (found .1)) ∙ e) in
-      (answer .1, (T, found .1, (λ long. let z : true ≡ false = sym (answer .0) ∙ long-fits T lent long in let y : _≡_ {A = ℕ} 0 1 = cc in omega arith)))),
-  (λ short. described-answer lent (short .1 .1) ∙ rw (not-long (short .1 .0) lent (short .1 .2), short .0)),
+      let answer = answer-refused (tooShort (countsOfTown T) lent) (countsOfTown T) 28 line (sym (described-answer lent (found .1)) ∙ e) in
+      (answer .1, (T, found .1, short-not-long T lent (answer .0)))),
+  (λ short. described-answer lent (short .1 .1) ∙ rw (not-long-short (short .1 .0) lent (short .1 .2), short .0)),
 )

@@ -60,19 +60,20 @@ unfolding fencesKeep
 first-keeps [] some e = absurd (some refl)
 first-keeps (f ∷ fs) some e = rw e
 
-module _ (fences : List ℕ) (before i : ℕ) (so-far : riseFrom before (drop i fences) ≡ fencesKeep fences) where
-  pub rise-fails : i < length fences → getD fences i 0 ≤ before → false ≡ fencesKeep fences
+module _ (fences : List ℕ) (before i : ℕ) {all : Bool} (so-far : riseFrom before (drop i fences) ≡ all) where
+  pub rise-fails : i < length fences → getD fences i 0 ≤ before → false ≡ all
   unfolding riseFrom
   rise-fails h e = rw (drop-cons fences i 0 h, riseFrom, le-ltb before (getD fences i 0) e) at so-far
 
-  pub rise-too-late : i < length fences → before < getD fences i 0 → day ≤ getD fences i 0 → false ≡ fencesKeep fences
+  pub rise-too-late : i < length fences → before < getD fences i 0 → day ≤ getD fences i 0 → false ≡ all
   unfolding riseFrom
   rise-too-late h l e = rw (drop-cons fences i 0 h, riseFrom, lt-ltb before (getD fences i 0) l, le-ltb (getD fences i 0) day e) at so-far
 
-  pub rise-goes-on : i < length fences → before < getD fences i 0 → getD fences i 0 < day → riseFrom (getD fences i 0) (drop (i + 1) fences) ≡ fencesKeep fences
+  pub rise-goes-on : i < length fences → before < getD fences i 0 → getD fences i 0 < day → riseFrom (getD fences i 0) (drop (i + 1) fences) ≡ all
   unfolding riseFrom
-  rise-goes-on h l e = rw add-one (rw (drop-cons fences i 0 h, riseFrom, lt-ltb before (getD fences i 0) l, lt-ltb (getD fences i 0) day e) at so-far)
+  rise-goes-on h l e =
+      rw add-one (rw (drop-cons fences i 0 h, riseFrom, lt-ltb before (getD fences i 0) l, lt-ltb (getD fences i 0) day e) at so-far)
 
-  pub rise-ends : length fences ≤ i → true ≡ fencesKeep fences
+  pub rise-ends : length fences ≤ i → true ≡ all
   unfolding riseFrom
   rise-ends h = rw (drop-of-length-le fences h) at so-far

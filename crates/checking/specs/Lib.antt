@@ -1,2 +1,3 @@
 pub mod NetworkCheck
 pub mod Question
+pub mod code

@@ -4,12 +4,14 @@ ghost use Prim.Native.Nat.{_≤_};
 ghost use lib.ListN.{length};
 ghost use Rattle.model.specs.Limits.{maxArcs, maxIntervals};
 ghost use Rattle.model.specs.NetworkRules.{junctionsKeep, tablesAgree, endsKeep};
+ghost use Rattle.checking.specs.code.Ends.{arcEndsKeep};
+use crate::rule::from_1_to;
 use model::limit::MAX_JUNCTIONS;
 
 pub(crate) fn junction_count_keeps(junctions: u32) -> bool
     ensures { λ r. ⌜ r ≡ junctionsKeep junctions ⌝ }
 {
-    0 < junctions && junctions as usize <= MAX_JUNCTIONS
+    from_1_to(MAX_JUNCTIONS, junctions as usize)
 }
 
 // The tables of arcs are as long as they should be. The product fits, since the counts are within their limits.
@@ -32,22 +34,27 @@ pub(crate) fn tables_agree(
     speeds.len() == tails.len() * fences.len()
 }
 
-// Every arc goes from a junction to another.
+// The arc goes from a junction to another.
+fn arc_ends_keep(junctions: u32, tail: u16, head: u16) -> bool
+    ensures { λ r. ⌜ r ≡ arcEndsKeep junctions tail head ⌝ }
+{
+    if junctions <= tail as u32 {
+        return false;
+    }
+    if junctions <= head as u32 {
+        return false;
+    }
+    tail != head
+}
+
+// So does every arc.
 pub(crate) fn ends_keep(junctions: u32, tails: &[u16], heads: &[u16]) -> bool
     requires { ⌜ length (now heads) ≡ length (now tails) ⌝ }
     ensures { λ r. ⌜ r ≡ endsKeep junctions (now (tails .entry)) (now (heads .entry)) ⌝ }
 {
     let mut a = 0;
     while a < tails.len() {
-        let tail = tails[a] as u32;
-        let head = heads[a] as u32;
-        if junctions <= tail {
-            return false;
-        }
-        if junctions <= head {
-            return false;
-        }
-        if tail == head {
+        if !arc_ends_keep(junctions, tails[a], heads[a]) {
             return false;
         }
         a += 1;

@@ -1,28 +1,32 @@
 // The tests of the rules that an arc's tables share with a network's. Each is the definition's own test, of the whole table.
 ghost use mathlib.Core.Path.{_≡_};
 ghost use Prim.Native.Nat.{max};
-ghost use Rattle.model.specs.Rules.{every, countKeeps, fencesKeep, lengthKeeps, speedKeeps};
+ghost use mathlib.Core.Bool.{_&&_};
+ghost use lib.Dec.{leb, ltb};
+ghost use lib.ListN.{drop};
+ghost use Rattle.model.specs.Rules.{every, riseFrom, countKeeps, fencesKeep, lengthKeeps, speedKeeps};
 use model::limit::MAX_INTERVALS;
 use model::limit::MAX_LENGTH;
 use model::limit::MAX_SPEED;
 use model::tick::Tick;
 
+// Each of the limits on a count and on a length allows 1 up to itself.
+pub(crate) fn from_1_to(limit: usize, number: usize) -> bool
+    ensures { λ r. ⌜ r ≡ (ltb 0 number && leb number limit) ⌝ }
+{
+    0 < number && number <= limit
+}
+
 pub fn interval_count_keeps(fences: &[u32]) -> bool
     ensures { λ r. ⌜ r ≡ countKeeps (now (fences .entry)) ⌝ }
 {
-    0 < fences.len() && fences.len() <= MAX_INTERVALS
+    from_1_to(MAX_INTERVALS, fences.len())
 }
 
-// The first fence is 0, each is greater than the one before, and all lie below the day.
-pub fn fences_keep(fences: &[u32]) -> bool
-    ensures { λ r. ⌜ r ≡ fencesKeep (now (fences .entry)) ⌝ }
+// Each fence after the first is greater than the one before and lies below the day, where the first is 0.
+fn fences_rise(fences: &[u32]) -> bool
+    ensures { λ r. ⌜ r ≡ riseFrom 0 (drop 1 (now (fences .entry))) ⌝ }
 {
-    if fences.len() == 0 {
-        return true;
-    }
-    if fences[0] != 0 {
-        return false;
-    }
     let mut before = 0;
     let mut i = 1;
     while i < fences.len() {
@@ -39,10 +43,23 @@ pub fn fences_keep(fences: &[u32]) -> bool
     true
 }
 
+// The first fence is 0, and the others rise from there.
+pub fn fences_keep(fences: &[u32]) -> bool
+    ensures { λ r. ⌜ r ≡ fencesKeep (now (fences .entry)) ⌝ }
+{
+    if fences.len() == 0 {
+        return true;
+    }
+    if fences[0] != 0 {
+        return false;
+    }
+    fences_rise(fences)
+}
+
 pub fn length_keeps(metres: u32) -> bool
     ensures { λ r. ⌜ r ≡ lengthKeeps metres ⌝ }
 {
-    0 < metres && metres <= MAX_LENGTH
+    from_1_to(MAX_LENGTH as usize, metres as usize)
 }
 
 pub fn lengths_keep(lengths: &[u32]) -> bool

@@ -35,6 +35,11 @@ holding-stands N kept lent =
     let heads = sym (kept .heads-long) in
     let lengths = sym (kept .lengths-long) in
     let speeds = sym (kept .speeds-long) in
+    let fences-start = written-start (N .fences) (lent .fences) refl in
+    let tails-start = written-start (N .tails) (lent .tails) refl in
+    let heads-start = written-start (N .heads) (lent .heads) heads in
+    let lengths-start = written-start (N .lengths) (lent .lengths) lengths in
+    let speeds-start = written-start (N .speeds) (lent .speeds) speeds in
     record {
       long = record {
         fences-long = written-long (N .fences) (lent .fences) refl;
@@ -43,11 +48,14 @@ holding-stands N kept lent =
         lengths-long = written-long (N .lengths) (lent .lengths) lengths;
         speeds-long = written-long (N .speeds) (lent .speeds) speeds;
       };
-      is-network = rw (written-start (N .fences) (lent .fences) refl, written-start (N .tails) (lent .tails) refl, written-start (N .heads) (lent .heads) heads, written-start (N .lengths) (lent .lengths) lengths, written-start (N .speeds) (lent .speeds) speeds);
+      is-network = rw (fences-start, tails-start, heads-start, lengths-start, speeds-start);
     }
 
-pub loaded-stands : (text : List ℕ) (lent : Tables) {reply : Counts} {held : Tables} → Bytes text → accepted reply ≡ loadAnswer text lent → held ≡ tablesAfter text lent → Stands (networkOf (townOf text)) reply held
-loaded-stands text lent {reply} {held} bytes e are = let found = load-accepts-when-described text bytes lent reply .0 (sym e) in go (found .0) (found .1) (found .3) (are ∙ found .4)
+pub loaded-stands : (text : List ℕ) (lent : Tables) {reply : Counts} {held : Tables} → Bytes text → accepted reply ≡ loadAnswer text lent →
+    held ≡ tablesAfter text lent → Stands (networkOf (townOf text)) reply held
+loaded-stands text lent {reply} {held} bytes e are =
+    let found = load-accepts-when-described text bytes lent reply .0 (sym e) in
+    go (found .0) (found .1) (found .3) (are ∙ found .4)
   where
     go : (T : Town) → Describes text T → reply ≡ countsOfTown T → held ≡ holding (networkOf T) lent → Stands (networkOf (townOf text)) reply held
     go T described counted holds = rw (described-town described, counted, holds) (holding-stands (networkOf T) (described .kept .network-accepted) lent)

@@ -1,23 +1,24 @@
 -- A text's lines: lines without a line feed inside are the pieces of the text that they make, with an empty piece behind the last;
 -- and a text whose last piece is empty is made of the pieces before it.
-use Prim.Native.Nat.{ℕ, suc, _+_, _<_}
+use Prim.Native.Nat.{ℕ, suc, _+_}
 use mathlib.Core.Path.{_≡_, refl, sym, ap, _∙_}
 use mathlib.Core.Bool.{cond}
 use mathlib.Core.List.{List, [], _∷_, _++_}
 use mathlib.Core.Logic.{inl, inr}
 use native.Mathlib.Omega.{arith}
 use lib.Dec.{eqb}
-use lib.ListN.{length, getD, length-append, List·getD-append}
+use lib.ListN.{length, length-append, List·getD-append}
 use lib.Seq.{getD-append-add}
 use borrow.Author.Tests.{ne-eqb}
 use Rattle.model.proofs.Tests.{eqb-cases}
 use Rattle.townfile.specs.Bytes.{lineFeed, onFirst, pieces}
 use Rattle.townfile.specs.Grammar.{Bytes, Each, joined}
+use Rattle.townfile.proofs.Lacks.{Lacks}
 use Rattle.townfile.proofs.Pieces.{pieces-next, pieces-behind}
 
 -- No line feed in a line.
 abbrev pub Unbroken : List ℕ → Type 0
-Unbroken line = (i : ℕ) → i < length line → getD line i 0 ≡ lineFeed → ⊥
+Unbroken line = Lacks lineFeed line
 
 -- ---- From lines to pieces
 

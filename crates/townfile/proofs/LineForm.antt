@@ -183,7 +183,7 @@ mark-lacks a b bytes a-above b-above lacks = cons-lacks a (b ∷ bytes) (λ e. o
 printable-lacks : (bytes : List ℕ) → Printable bytes → Lacks lineFeed bytes
 printable-lacks bytes all i h e = omega (arith, all i h .0)
 
-pub reads-unbroken : {line : List ℕ} {says : Line} → Reads line says → (i : ℕ) → i < length line → getD line i 0 ≡ lineFeed → ⊥
+pub reads-unbroken : {line : List ℕ} {says : Line} → Reads line says → Lacks lineFeed line
 reads-unbroken (town-line {bytes} fields) = mark-lacks 84 78 bytes (omega arith) (omega arith) (fields-lack fields)
 reads-unbroken (fences-line {bytes} fields) = mark-lacks 70 78 bytes (omega arith) (omega arith) (fields-lack fields)
 reads-unbroken (junction-line {bytes} {name} number kept) =

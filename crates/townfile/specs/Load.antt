@@ -8,7 +8,7 @@ use mathlib.Core.List.{List}
 use lib.Dec.{ltb}
 use lib.ListN.{length, take, replicate}
 use Rattle.model.specs.Limits.{maxArcs, maxIntervals}
-use Rattle.model.specs.Network.{Network, network, arcs, intervals}
+use Rattle.model.specs.Network.{Network, arcs, intervals}
 use Rattle.model.specs.Rules.{written}
 use Rattle.townfile.specs.Grammar.{Bytes, Town, Describes, networkOf}
 use Rattle.townfile.specs.FirstFault.{Reading, refusedAt, accepted, firstFault}
@@ -46,12 +46,24 @@ pub record LongEnough (asked : Counts) (lent : Tables) : Type 0 where
 
 -- Tables of zeros with room for every town.
 abbrev pub roomyTables : Tables
-roomyTables = tables (replicate maxIntervals 0) (replicate maxArcs 0) (replicate maxArcs 0) (replicate maxArcs 0) (replicate (maxArcs * maxIntervals) 0)
+roomyTables = record {
+  fences = replicate maxIntervals 0;
+  tails = replicate maxArcs 0;
+  heads = replicate maxArcs 0;
+  lengths = replicate maxArcs 0;
+  speeds = replicate (maxArcs * maxIntervals) 0;
+}
 
 -- The network at the tables' start, of as many entries as the counts say.
 abbrev pub networkAt : Counts → Tables → Network
-networkAt asked held =
-    network (asked .junctions) (take (asked .intervals) (held .fences)) (take (asked .arcs) (held .tails)) (take (asked .arcs) (held .heads)) (take (asked .arcs) (held .lengths)) (take (asked .arcs * asked .intervals) (held .speeds))
+networkAt asked held = record {
+  junctions = asked .junctions;
+  fences = take (asked .intervals) (held .fences);
+  tails = take (asked .arcs) (held .tails);
+  heads = take (asked .arcs) (held .heads);
+  lengths = take (asked .arcs) (held .lengths);
+  speeds = take (asked .arcs * asked .intervals) (held .speeds);
+}
 
 -- Lengths of tables that are too small for their own entries.
 abbrev pub lacksRoom : ℕ → ℕ → ℕ → ℕ → ℕ → ℕ → ℕ → Bool
@@ -71,8 +83,13 @@ loadAnswer text lent = intoTables (firstFault text) lent
 
 -- The lent tables with a network's entries at their start.
 abbrev pub holding : Network → Tables → Tables
-holding N lent =
-    tables (written (N .fences) (lent .fences)) (written (N .tails) (lent .tails)) (written (N .heads) (lent .heads)) (written (N .lengths) (lent .lengths)) (written (N .speeds) (lent .speeds))
+holding N lent = record {
+  fences = written (N .fences) (lent .fences);
+  tails = written (N .tails) (lent .tails);
+  heads = written (N .heads) (lent .heads);
+  lengths = written (N .lengths) (lent .lengths);
+  speeds = written (N .speeds) (lent .speeds);
+}
 
 -- What the lent tables hold afterwards: where the call is refused, what they held before.
 abbrev pub afterReading : Reading Counts → Tables → Tables → Tables

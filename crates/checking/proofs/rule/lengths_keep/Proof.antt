@@ -1,11 +1,11 @@
 -- `rule::lengths_keep` is the test `every lengthKeeps` of the whole table: the invariant says so of the entries that are left.
 use borrow.Author.Needs.{needs}
 use Prim.Native.Nat.{_-_}
-use mathlib.Core.Path.{_≡_, refl, sym, _∙_}
+use mathlib.Core.Path.{_≡_, refl}
 use lib.ListN.{length, drop}
-use borrow.Author.Tests.{not-true, not-false}
 use Rattle.model.specs.Rules.{every, lengthKeeps}
 use Rattle.checking.proofs.Scan.{every-fails, every-goes-on, every-ends}
+use Rattle.checking.proofs.Flags.{test-fails, test-passes}
 use Rattle.checking.proofs.rule.lengths_keep.Statement.{statement}
 use Rattle.checking.proofs.rule.lengths_keep.Tie as tie
 
@@ -19,10 +19,14 @@ loop-holds : tie.Need-loop-holds Inv-loop μ-loop
 loop-holds c = refl
 
 returns : tie.Need-returns Inv-loop μ-loop
-returns c = every-fails lengthKeeps _ _ (c .before .before .before .before .loop .inv) (c .before .before .before .loop-test .taken) (sym (c .before .length-keeps .ensures) ∙ not-true _ (c .if1 .taken))
+returns c =
+    let turn = c .before .before .before in
+    every-fails lengthKeeps _ _ (turn .before .loop .inv) (turn .loop-test .taken) (test-fails (c .before .length-keeps .ensures) (c .if1 .taken))
 
 loop-again : tie.Need-loop-again Inv-loop μ-loop
-loop-again c = every-goes-on lengthKeeps _ _ (c .before .before .before .before .loop .inv) (c .before .before .before .loop-test .taken) (sym (c .before .length-keeps .ensures) ∙ not-false _ (c .if1 .left))
+loop-again c =
+    let turn = c .before .before .before in
+    every-goes-on lengthKeeps _ _ (turn .before .loop .inv) (turn .loop-test .taken) (test-passes (c .before .length-keeps .ensures) (c .if1 .left))
 
 returns-2 : tie.Need-returns-2 Inv-loop μ-loop
 returns-2 c = every-ends lengthKeeps _ _ (c .before .loop .inv) (c .loop-test .left)

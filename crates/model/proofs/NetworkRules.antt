@@ -11,7 +11,8 @@ use Rattle.model.specs.Limits.{maxJunctions, maxArcs, maxLength}
 use Rattle.model.specs.Network.{Network, arcs, intervals, Accepted}
 use Rattle.model.specs.NetworkRules.{junctionsKeep, tablesAgree, endsKeep, networkRules, networkCheck, AcceptsWhenKept}
 use Rattle.model.specs.Rules.{AllKept, every, fencesKeep, lengthKeeps}
-use Rattle.model.proofs.Rules.{kept-replies, replies-kept, true-both, true-three, both-true, kept-count, count-kept, kept-length, length-kept, every-at, at-every, kept-speeds, speeds-kept, fences-kept, kept-fences}
+use Rattle.model.proofs.Rules.{kept-replies, replies-kept, true-both, true-three, both-true}
+use Rattle.model.proofs.Rules.{kept-count, count-kept, kept-length, length-kept, every-at, at-every, kept-speeds, speeds-kept, fences-kept, kept-fences}
 
 -- ---- The ends of the arcs
 

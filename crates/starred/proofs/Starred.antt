@@ -1,7 +1,8 @@
 -- Every starred row holds: its rules are tests that compute, and so does its arrival, tick by tick, but for the row in which no tick of 1.7
--- million covers the length: there the law of the flow over a piece of constant speed gives it. A town's labels are computed too.
+-- million covers the length: there the law of the flow over a piece of constant speed gives it. The sample town's network is read off its
+-- text, and its labels are computed from that network.
 use Prim.Native.Nat.{ℕ, _<_}
-use mathlib.Core.Path.{_≡_, refl, ap, _∙_}
+use mathlib.Core.Path.{_≡_, refl, sym, ap, subst, _∙_}
 use mathlib.Core.Bool.{true}
 use mathlib.Core.List.{List, [], _∷_, flatten}
 use mathlib.Core.Option.{none}
@@ -13,7 +14,7 @@ use Rattle.model.specs.Ticks.{day, last, tick?}
 use Rattle.model.specs.Flow.{covered, firstTick, arrival}
 use Rattle.model.specs.Intervals.{FencesKept, interval, passed, speedAt}
 use Rattle.model.specs.Labels.{offer, offers, within, labelsOf}
-use Rattle.model.specs.Network.{Network, netOf, speedOn, driveOf}
+use Rattle.model.specs.Network.{Network, network, netOf, speedOn, driveOf}
 use Rattle.model.specs.NetworkRules.{endsKeep, networkCheck}
 use Rattle.model.specs.Rules.{replied, firstBroken, every, riseFrom, fencesKeep}
 use Rattle.model.proofs.IntervalPieces.{interval-is-piece}
@@ -77,33 +78,54 @@ refused-text : (text : List ℕ) (number line : ℕ) → firstFault text ≡ ref
 unfolding loadAnswer tablesAfter
 refused-text text number line e lent = (rw e, rw e)
 
+-- ---- The sample town
+
 sample-read : Progress
 sample-read = record { turn = 3; junctions = 3; intervals = 2; unnamed = 1; arcs = 3 }
+
+scanned : (firstFault sampleText ≡ accepted sample-read) × (firstFault sampleWithoutComment ≡ accepted sample-read)
+unfolding sample-read joined firstBroken every riseFrom fencesKeep upTo onFirst pieces decimalFrom numberKeeps markOf nameKeeps formKeeps valuesKeep lineRead lineAnswer linesFrom firstFault
+scanned = (refl, refl)
 
 same-town : townOf sampleText ≡ townOf sampleWithoutComment
 unfolding joined pieces upTo onFirst decimalFrom markOf marked townOf flatten
 same-town = refl
 
-sample-scanned : firstFault sampleText ≡ accepted sample-read
-unfolding sample-read joined firstBroken every riseFrom fencesKeep upTo onFirst pieces decimalFrom numberKeeps markOf nameKeeps formKeeps valuesKeep lineRead lineAnswer linesFrom firstFault
-sample-scanned = refl
+sample-described : Describes sampleText (townOf sampleText)
+unfolding joined every
+sample-described = describes sampleText sample-read refl (scanned .0)
 
-shorter-scanned : firstFault sampleWithoutComment ≡ accepted sample-read
-unfolding sample-read joined firstBroken every riseFrom fencesKeep upTo onFirst pieces decimalFrom numberKeeps markOf nameKeeps formKeeps valuesKeep lineRead lineAnswer linesFrom firstFault
-shorter-scanned = refl
+-- The network that the lines give.
+abbrev sampleNetwork : Network
+sampleNetwork = network 3 (0 ∷ 100 ∷ []) (0 ∷ 0 ∷ 1 ∷ []) (1 ∷ 2 ∷ 2 ∷ []) (50 ∷ 100 ∷ 50 ∷ []) (36 ∷ 18 ∷ 40 ∷ 20 ∷ 36 ∷ 36 ∷ [])
+
+sample-network : networkOf (townOf sampleText) ≡ sampleNetwork
+unfolding joined pieces upTo onFirst decimalFrom markOf marked townOf flatten
+sample-network = refl
+
+sample-checked : networkCheck sampleNetwork ≡ replied tt
+unfolding networkCheck firstBroken every riseFrom fencesKeep endsKeep
+sample-checked = refl
+
+sample-labels : labelsOf (netOf sampleNetwork) 0 10 ≡ 10 ∷ 60 ∷ 100 ∷ []
+unfolding labelsOf within offers offer driveOf speedOn speedAt interval passed arrival firstTick covered
+sample-labels = refl
 
 town-row : Holds (Row.town sampleText 0 10 (10 ∷ 60 ∷ 100 ∷ []))
-unfolding joined pieces upTo onFirst decimalFrom markOf marked townOf flatten firstBroken every riseFrom fencesKeep networkCheck endsKeep labelsOf within offers offer driveOf speedOn speedAt interval passed arrival firstTick covered
-town-row = (townOf sampleText, describes sampleText sample-read refl sample-scanned, labels-are (networkOf (townOf sampleText)) 0 10 (10 ∷ 60 ∷ 100 ∷ []) refl (omega arith) (omega arith) refl)
+town-row =
+    let labelled = labels-are sampleNetwork 0 10 (10 ∷ 60 ∷ 100 ∷ []) sample-checked (omega arith) (omega arith) sample-labels in
+    (townOf sampleText, sample-described, subst (λ (N : Network). LabelsAre N 0 10 (10 ∷ 60 ∷ 100 ∷ [])) (sym sample-network) labelled)
 
 alike-row : Holds (Row.alike sampleText sampleWithoutComment)
 unfolding joined every
 alike-row = (
   townOf sampleText,
-  describes sampleText sample-read refl sample-scanned,
-  rw same-town (describes sampleWithoutComment sample-read refl shorter-scanned),
-  loads-alike sampleText sampleWithoutComment sample-read sample-scanned shorter-scanned same-town,
+  sample-described,
+  rw same-town (describes sampleWithoutComment sample-read refl (scanned .1)),
+  loads-alike sampleText sampleWithoutComment sample-read (scanned .0) (scanned .1) same-town,
 )
+
+-- ---- All rows
 
 empty-row : Holds (Row.refuses [] 27 1)
 unfolding pieces linesFrom firstFault

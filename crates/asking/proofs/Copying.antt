@@ -7,8 +7,8 @@ use native.Mathlib.Omega.{arith}
 use lib.ListN.{length, set, take, drop, length-set, length-take}
 use lib.Seq.{sets, sets-eq}
 use Rattle.model.specs.Rules.{written}
-use Rattle.reading.specs.Fields.{numbersFrom}
-use Rattle.reading.proofs.NumbersLeft.{FieldRead, number-goes}
+use Rattle.fields.specs.Fields.{numbersFrom}
+use Rattle.fields.proofs.FieldsLeft.{FieldRead, number-goes}
 
 set-outside : (table : List ℕ) (at value : ℕ) → length table ≤ at → set table at value ≡ table
 set-outside [] at value h = refl

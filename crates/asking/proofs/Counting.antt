@@ -10,10 +10,10 @@ use borrow.Author.Tests.{eq-eqb, ne-eqb, lt-ltb, le-ltb}
 use Rattle.model.specs.Rules.{every}
 use Rattle.townfile.specs.Bytes.{lineFeed, upTo, pieces}
 use Rattle.townfile.specs.Numbers.{decimal, numberKeeps}
-use Rattle.reading.specs.Fields.{lineFrom, wordFrom, fieldAt, fieldsFrom, numbersFrom, filledBy}
-use Rattle.reading.specs.declared.field.Field.the-variants as field
-use Rattle.reading.proofs.LineFrom.{line-ends, line-feed-ends, line-goes-on}
-use Rattle.reading.proofs.NumbersLeft.{and-false, FieldRead, field-not-read, field-goes, number-goes, word-gone, word-behind, end-behind, unfilled-without-field, unfilled-before-end}
+use Rattle.fields.specs.Fields.{lineFrom, wordFrom, fieldAt, fieldsFrom, numbersFrom, filledBy}
+use Rattle.fields.specs.declared.field.Field.the-variants as field
+use Rattle.fields.proofs.LineFrom.{line-ends, line-feed-ends, line-goes-on}
+use Rattle.fields.proofs.FieldsLeft.{and-false, FieldRead, field-not-read, field-goes, number-goes, word-gone, word-behind, end-behind, unfilled-without-field, unfilled-before-end}
 use Rattle.asking.specs.code.Counting.{onlyNumbers, countedFrom}
 use Rattle.asking.specs.declared.line.Asked.the-variants.{Numbers, Malformed}
 

@@ -18,7 +18,7 @@ use Rattle.townfile.specs.Numbers.{numberKeeps}
 use Rattle.townfile.specs.Lines.{markOf}
 use Rattle.townfile.specs.Grammar.{Bytes, Fields}
 use Rattle.townfile.proofs.FieldForm.{upTo-part, pieces-fields, fields-pieces, fields-lack}
-use Rattle.reading.proofs.NumbersLeft.{no-bytes}
+use Rattle.fields.proofs.FieldsLeft.{no-bytes}
 use Rattle.asking.specs.Line.{firstLine, behindMark, fieldsIn, numbersIn, hasMark, ofForm, restOf, LineAndRest, Capital, OfFormWhenWritten}
 use Rattle.asking.proofs.Marked.{TwoBytes, two-bytes, line-of-two}
 

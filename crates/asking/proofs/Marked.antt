@@ -12,8 +12,8 @@ use Rattle.model.specs.Rules.{written}
 use Rattle.model.proofs.Tests.{eqb-cases}
 use Rattle.townfile.specs.Bytes.{lineFeed, upTo}
 use Rattle.townfile.specs.Lines.{markOf}
-use Rattle.reading.specs.Fields.{lineFrom, numbersFrom}
-use Rattle.reading.proofs.NumbersLeft.{and-false}
+use Rattle.fields.specs.Fields.{lineFrom, numbersFrom}
+use Rattle.fields.proofs.FieldsLeft.{and-false}
 use Rattle.asking.specs.Line.{firstLine, behindMark, hasMark, ofForm, askedBy, numbersAfter}
 use Rattle.asking.specs.code.Counting.{onlyNumbers, countedFrom}
 use Rattle.asking.specs.declared.line.Asked.the-variants.{Numbers, Malformed}

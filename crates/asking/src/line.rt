@@ -3,12 +3,12 @@ ghost use mathlib.Core.Path.{_≡_};
 ghost use mathlib.Core.Bool.{true};
 ghost use lib.ListN.{length, take};
 ghost use Rattle.model.specs.Rules.{written};
-ghost use Rattle.reading.specs.Fields.{numbersFrom};
+ghost use Rattle.fields.specs.Fields.{numbersFrom};
 ghost use Rattle.asking.specs.Line.{askedBy, numbersAfter};
 ghost use Rattle.asking.specs.code.Counting.{onlyNumbers, countedFrom};
-use reading::field::Field;
-use reading::field::mark_at;
-use reading::field::read_field;
+use fields::field::Field;
+use fields::field::mark_at;
+use fields::field::read_field;
 use townfile::mark::LINE_FEED;
 use townfile::mark::NONE;
 

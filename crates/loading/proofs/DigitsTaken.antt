@@ -13,11 +13,11 @@ use Rattle.townfile.specs.Bytes.{space, digit}
 use Rattle.townfile.specs.Numbers.{decimalFrom, decimal}
 use Rattle.townfile.proofs.Between.{every-between}
 use Rattle.townfile.proofs.NumberForm.{keeps-number}
-use Rattle.reading.specs.Fields.{lineFrom, wordFrom, fieldKeeps}
+use Rattle.fields.specs.Fields.{lineFrom, wordFrom, fieldKeeps}
 use Rattle.loading.specs.code.Filling.{EndsInside, takenAt}
-use Rattle.reading.proofs.LineFrom.{word-at, upTo-length}
-use Rattle.reading.proofs.Digits.{decimal-grows, all-digits, number-below, value-left, end-left, digits-left}
-use Rattle.reading.proofs.NumbersLeft.{kept-field, gap-line, no-bytes}
+use Rattle.fields.proofs.LineFrom.{word-at, upTo-length}
+use Rattle.fields.proofs.Digits.{decimal-grows, all-digits, number-below, value-left, end-left, digits-left}
+use Rattle.fields.proofs.FieldsLeft.{kept-field, gap-line, no-bytes}
 
 -- The digits of the field at a place are taken up to another, and come to a value.
 pub record DigitsTaken (text : List ℕ) (at i value : ℕ) : Type 0 where

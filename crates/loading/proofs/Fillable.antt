@@ -26,9 +26,9 @@ use Rattle.townfile.proofs.Marks.{Known, known-mark, town-mark, fences-mark, ju
 use Rattle.townfile.proofs.Described.{described-town}
 use Rattle.townfile.proofs.Load.{load-accepts-when-described}
 use Rattle.townfile.proofs.Pieces.{upTo-has-none}
-use Rattle.reading.specs.Fields.{lineFrom}
+use Rattle.fields.specs.Fields.{lineFrom}
 use Rattle.loading.specs.code.Filling.{EndsInside, FencesLine, ArcLine, Fillable}
-use Rattle.reading.proofs.LineFrom.{line-at}
+use Rattle.fields.proofs.LineFrom.{line-at}
 
 -- ---- One line
 

@@ -16,9 +16,9 @@ use Rattle.townfile.specs.Grammar.{networkOf, Each}
 use Rattle.townfile.specs.Lines.{markFN, markAR, markOf, markAlone, fieldsOf, numbersOf, numbersKeep}
 use Rattle.townfile.specs.Tables.{arcOf, townOf}
 use Rattle.townfile.specs.Load.{Tables, tables, holding}
-use Rattle.reading.specs.Fields.{lineFrom, numbersFrom}
+use Rattle.fields.specs.Fields.{lineFrom, numbersFrom}
 use Rattle.loading.specs.code.Filling.{EndsInside, NumbersFill, ArcFills, FencesLine, ArcLine, Fillable}
-use Rattle.reading.proofs.BehindMark.{BehindMark}
+use Rattle.fields.proofs.BehindMark.{BehindMark}
 use Rattle.loading.proofs.MarkedFrom.{markedFrom, none-left, this-marked, this-unmarked}
 
 -- ---- One table

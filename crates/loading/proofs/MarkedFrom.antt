@@ -11,7 +11,7 @@ use Rattle.model.proofs.Tests.{ltb-cases}
 use Rattle.townfile.specs.Bytes.{lineFeed, pieces}
 use Rattle.townfile.specs.Lines.{markOf}
 use Rattle.townfile.specs.Tables.{marked}
-use Rattle.reading.specs.Fields.{lineFrom}
+use Rattle.fields.specs.Fields.{lineFrom}
 use Rattle.scanning.proofs.RestLines.{next-lines, last-line}
 
 abbrev pub markedFrom : ℕ → List ℕ → ℕ → List (List ℕ)

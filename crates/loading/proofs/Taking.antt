@@ -12,10 +12,10 @@ use borrow.Author.Tests.{leb-true}
 use Rattle.model.specs.Rules.{every, speedKeeps}
 use Rattle.model.proofs.Rules.{true-both}
 use Rattle.townfile.specs.Bytes.{pieces}
-use Rattle.reading.specs.Fields.{lineFrom, fieldKeeps, fieldsFrom, numbersFrom, filledBy}
+use Rattle.fields.specs.Fields.{lineFrom, fieldKeeps, fieldsFrom, numbersFrom, filledBy}
 use Rattle.loading.specs.code.Filling.{EndsInside, takenAt, NumbersFill, ArcFills}
 use Rattle.loading.specs.declared.fill.NumberTaken.{NumberTaken}
-use Rattle.reading.proofs.NumbersLeft.{FieldRead, kept-field, field-goes, number-goes, word-gone, word-behind, end-behind, no-bytes, unfilled-without-field, unfilled-before-end}
+use Rattle.fields.proofs.FieldsLeft.{FieldRead, kept-field, field-goes, number-goes, word-gone, word-behind, end-behind, no-bytes, unfilled-without-field, unfilled-before-end}
 
 -- ---- One field
 

@@ -9,10 +9,10 @@ ghost use Rattle.townfile.specs.Grammar.{networkOf};
 ghost use Rattle.townfile.specs.Tables.{townOf};
 ghost use Rattle.townfile.specs.Load.{holding};
 ghost use Rattle.townfile.specs.Lent.{lentTables, leftTables};
-ghost use Rattle.reading.specs.Fields.{lineFrom, fieldKeeps, numbersFrom};
+ghost use Rattle.fields.specs.Fields.{lineFrom, fieldKeeps, numbersFrom};
 ghost use Rattle.loading.specs.code.Filling.{EndsInside, takenAt, NumbersFill, ArcFills, Fillable};
-use reading::field::line_end;
-use reading::field::mark_at;
+use fields::field::line_end;
+use fields::field::mark_at;
 use townfile::mark::ARC;
 use townfile::mark::FENCES;
 

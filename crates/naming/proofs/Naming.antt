@@ -20,12 +20,12 @@ use Rattle.townfile.specs.FirstFault.{refusedAt, accepted, start, onward, lines
 use Rattle.townfile.specs.Name.{part, namesIt, placeAmong, namePlace}
 use Rattle.townfile.specs.declared.progress.Progress.{Progress}
 use Rattle.townfile.proofs.NameForm.{keeps-name}
-use Rattle.reading.specs.Fields.{lineFrom, wordFrom, fieldAt}
+use Rattle.fields.specs.Fields.{lineFrom, wordFrom, fieldAt}
 use Rattle.naming.specs.code.Naming.{LineNames, nameStart}
-use Rattle.reading.specs.declared.field.Field.the-variants as field
+use Rattle.fields.specs.declared.field.Field.the-variants as field
 use Rattle.naming.specs.declared.name.NameStart.the-variants.{At, Other}
-use Rattle.reading.proofs.LineFrom.{line-later, upTo-behind}
-use Rattle.reading.proofs.NumbersLeft.{no-word}
+use Rattle.fields.proofs.LineFrom.{line-later, upTo-behind}
+use Rattle.fields.proofs.FieldsLeft.{no-word}
 use Rattle.scanning.proofs.RestLines.{lines-behind, next-lines, last-line}
 
 -- ---- A text without fault

@@ -10,7 +10,7 @@ use lib.ListN.{length, getD, take, replicate}
 use borrow.Author.Tests.{eq-eqb, ne-eqb, eqb-true}
 use Rattle.model.specs.Rules.{written}
 use Rattle.model.proofs.Rules.{true-both, both-true}
-use Rattle.reading.proofs.NumbersLeft.{and-false}
+use Rattle.fields.proofs.FieldsLeft.{and-false}
 use Rattle.townfile.specs.Grammar.{Bytes}
 use Rattle.asking.specs.Line.{numbersIn, ofForm, restOf, LineAndRest}
 use Rattle.asking.proofs.Asked.{NumbersAsked}

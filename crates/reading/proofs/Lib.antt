@@ -1,9 +1,2 @@
-pub mod BehindMark
-pub mod Digits
-pub mod LineFrom
 pub mod LineMarks
-pub mod NumberLoops
-pub mod NumbersLeft
-pub mod Rests
-pub mod ShortSpeeds
 pub mod Steps

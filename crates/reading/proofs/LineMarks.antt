@@ -13,16 +13,19 @@ use Rattle.townfile.specs.Bytes.{space, printable, upTo}
 use Rattle.townfile.specs.Numbers.{decimal, numberKeeps}
 use Rattle.townfile.specs.Lines.{markTN, markFN, markJN, markAR, markCM, markOf, markAlone, numbersOf, numbersKeep, numberField, nameField, nameKeeps, formKeeps, valuesKeep, townKeeps, junctionKeeps, arcKeeps, townRead, fencesRead, junctionRead, arcRead, lineRead}
 use Rattle.townfile.specs.declared.progress.Progress.{Progress}
-use Rattle.reading.specs.Fields.{lineFrom, wordFrom, fieldAt, fieldsFrom, numbersFrom}
-use Rattle.reading.specs.LineSteps.{Step, step, numbersRead, ofNumbers, inTurnOnly, nameAt, withName, withJunction, ofComment, townStep, fencesStep, junctionStep, arcStep, commentStep, lineStep}
-use Rattle.reading.specs.declared.field.Field.{Field}
-use Rattle.reading.specs.declared.field.Field.the-variants as field
-use Rattle.reading.specs.declared.numbers.Numbers.the-variants.{Within, Outside, Malformed}
-use Rattle.reading.specs.declared.field.Rest.the-variants.{Good}
-use Rattle.reading.specs.declared.field.Rest.the-variants as rest
-use Rattle.reading.proofs.BehindMark.{BehindMark}
-use Rattle.reading.proofs.LineFrom.{line-later}
-use Rattle.reading.proofs.NumbersLeft.{FieldRead, field-read, field-not-read, gap-line, no-word, word-gone, word-behind, end-behind}
+use Rattle.fields.specs.Fields.{lineFrom, wordFrom, fieldAt, fieldsFrom, numbersFrom}
+use Rattle.reading.specs.LineSteps.{Step, step, lineStep}
+use Rattle.series.specs.NumbersRead.{numbersRead}
+use Rattle.reading.specs.code.Kinds.{ofNumbers, inTurnOnly, withName, withJunction, ofComment, townStep, fencesStep, junctionStep, arcStep, commentStep}
+use Rattle.fields.specs.Fields.{nameAt}
+use Rattle.fields.specs.declared.field.Field.{Field}
+use Rattle.fields.specs.declared.field.Field.the-variants as field
+use Rattle.series.specs.declared.numbers.Numbers.the-variants.{Within, Outside, Malformed}
+use Rattle.fields.specs.declared.field.Rest.the-variants.{Good}
+use Rattle.fields.specs.declared.field.Rest.the-variants as rest
+use Rattle.fields.proofs.BehindMark.{BehindMark}
+use Rattle.fields.proofs.LineFrom.{line-later}
+use Rattle.fields.proofs.FieldsLeft.{FieldRead, field-read, field-not-read, gap-line, no-word, word-gone, word-behind, end-behind}
 
 -- The rules from 24 on, one after the other.
 abbrev asked : Bool → Bool → Bool → Step → Outcome Step

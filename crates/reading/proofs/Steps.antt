@@ -13,17 +13,21 @@ use Rattle.model.proofs.Rules.{true-both}
 use Rattle.townfile.specs.Bytes.{lineFeed, space, upTo}
 use Rattle.townfile.specs.Lines.{townKeeps, junctionKeeps, endsDiffer, arcKeeps, townRead, fencesRead, junctionRead, arcRead}
 use Rattle.townfile.specs.declared.progress.Progress.{Progress}
-use Rattle.reading.specs.Fields.{lineFrom, wordFrom, fieldAt, printableRest, numbersFrom, filledBy}
-use Rattle.reading.specs.LineSteps.{step, numbersRead, withinIf, ofNumbers, arcFits, nameAt, withName, withJunction, townStep, fencesStep, junctionStep, arcStep, ofComment, commentStep}
-use Rattle.reading.specs.declared.field.Field.{Field}
-use Rattle.reading.specs.declared.field.Field.the-variants as field
-use Rattle.reading.specs.declared.field.Rest.{Rest}
-use Rattle.reading.specs.declared.field.Rest.the-variants as rest
-use Rattle.reading.specs.declared.numbers.Numbers.{Numbers}
-use Rattle.reading.specs.declared.numbers.Numbers.the-variants.{Within, Outside, Malformed}
-use Rattle.reading.proofs.LineFrom.{space-ends, word-goes-on}
-use Rattle.reading.proofs.NumbersLeft.{field-read, numbers-go-on, number-goes, numbers-malformed}
-use Rattle.reading.proofs.NumberLoops.{numbers-same}
+use Rattle.fields.specs.Fields.{lineFrom, wordFrom, fieldAt, printableRest, numbersFrom, filledBy}
+use Rattle.reading.specs.LineSteps.{step}
+use Rattle.series.specs.NumbersRead.{numbersRead, withinIf}
+use Rattle.reading.specs.code.Kinds.{ofNumbers, arcFits, withName, withJunction, townStep, fencesStep, junctionStep, arcStep, ofComment, commentStep}
+use Rattle.fields.specs.Fields.{nameAt}
+use Rattle.fields.specs.declared.field.Field.{Field}
+use Rattle.fields.specs.declared.field.Field.the-variants as field
+use Rattle.fields.specs.declared.field.Rest.{Rest}
+use Rattle.fields.specs.declared.field.Rest.the-variants as rest
+use Rattle.series.specs.declared.numbers.Numbers.{Numbers}
+use Rattle.series.specs.declared.numbers.Numbers.the-variants.{Within, Outside, Malformed}
+use Rattle.fields.proofs.LineFrom.{space-ends, word-goes-on}
+use Rattle.fields.proofs.FieldsLeft.{field-read, number-goes}
+use Rattle.series.proofs.NumbersLeft.{numbers-go-on, numbers-malformed, within-both}
+use Rattle.series.proofs.NumberLoops.{numbers-same}
 
 module _ (p : Progress) (text : List ℕ) (at : ℕ) where
   -- ---- Fences
@@ -147,17 +151,6 @@ fits-and-speeds true true true true = refl
 fits-and-speeds true true true false = refl
 fits-and-speeds true true false true = refl
 fits-and-speeds true true false false = refl
-
-within-both : (fits : Bool) (test : List ℕ → Bool) (count : ℕ) (text : List ℕ) (at : ℕ) → withinIf (numbersRead test count text at) fits ≡ numbersRead (λ numbers. fits && test numbers) count text at
-unfolding numbersRead
-within-both fits test count text at = go (filledBy count text at) (test (numbersFrom text at)) fits
-  where
-    go : (filled kept fits : Bool) → withinIf (cond filled (cond kept (Within (at + length (lineFrom text at))) Outside) Malformed) fits ≡ cond filled (cond (fits && kept) (Within (at + length (lineFrom text at))) Outside) Malformed
-    go false kept fits = refl
-    go true true true = refl
-    go true true false = refl
-    go true false true = refl
-    go true false false = refl
 
 module _ (p : Progress) (text : List ℕ) (at : ℕ) where
   abbrev asked : Numbers

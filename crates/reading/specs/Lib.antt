@@ -1,3 +1,2 @@
 pub mod code
-pub mod Fields
 pub mod LineSteps

@@ -1,1 +1,1 @@
-pub mod ShortSpeeds
+pub mod Kinds

@@ -1,6 +1,3 @@
-// Reading a town file's fields and lines. Each function that another crate calls equals a definition for every text and every place.
-pub mod field;
+// A line of a town file, by its mark: what it adds, or its first fault. `read_line` equals a definition for every text and every place.
 mod limits;
 pub mod line;
-mod numbers;
-mod speeds;

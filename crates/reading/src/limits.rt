@@ -1,22 +1,14 @@
 // The limits of what a line's numbers say. The tests are free of branches, since a line is read on after a number outside its limits.
 ghost use mathlib.Core.Path.{_≡_};
-ghost use mathlib.Core.Bool.{_&&_};
 ghost use mathlib.Core.List.{[], _∷_};
 ghost use Rattle.townfile.specs.Lines.{townKeeps, junctionKeeps};
-ghost use Rattle.reading.specs.LineSteps.{fenceKeeps, arcFits};
+ghost use Rattle.reading.specs.code.Kinds.{arcFits};
 use model::limit::MAX_ARCS;
 use model::limit::MAX_INTERVALS;
 use model::limit::MAX_JUNCTIONS;
 use model::limit::MAX_LENGTH;
-use model::tick::Tick;
+use series::limits::both;
 use townfile::progress::Progress;
-
-// Both hold. As a function it keeps tests and flags free of branches.
-pub(crate) fn both(a: bool, b: bool) -> bool
-    ensures { λ r. ⌜ r ≡ (a && b) ⌝ }
-{
-    a && b
-}
 
 pub(crate) fn town_keeps(junctions: u32, intervals: u32) -> bool
     ensures { λ r. ⌜ r ≡ townKeeps (junctions ∷ intervals ∷ []) ⌝ }
@@ -28,16 +20,6 @@ pub(crate) fn town_keeps(junctions: u32, intervals: u32) -> bool
         ),
         intervals <= MAX_INTERVALS as u32,
     )
-}
-
-// The first fence is 0; any other is above the one before it and below the day.
-pub(crate) fn fence_keeps(k: u32, before: u32, fence: u32) -> bool
-    ensures { λ r. ⌜ r ≡ fenceKeeps k before fence ⌝ }
-{
-    if k == 0 {
-        return fence == 0;
-    }
-    both(before < fence, fence < Tick::DAY)
 }
 
 pub(crate) fn junction_keeps(progress: Progress, junction: u32) -> bool

@@ -3,27 +3,28 @@
 ghost use mathlib.Core.Path.{_≡_};
 ghost use Prim.Native.Nat.{_+_};
 ghost use Rattle.townfile.specs.Lines.{arcKeeps};
-ghost use Rattle.reading.specs.LineSteps.{numbersRead, nameAt, outcomeOf, townStep, fencesStep, junctionStep, arcStep, commentStep, lineStep};
-use crate::field::Field;
-use crate::field::Rest;
-use crate::field::mark_at;
-use crate::field::name_rest;
-use crate::field::printable;
-use crate::field::read_field;
+ghost use Rattle.series.specs.NumbersRead.{numbersRead};
+ghost use Rattle.reading.specs.LineSteps.{outcomeOf, lineStep};
+ghost use Rattle.reading.specs.code.Kinds.{townStep, fencesStep, junctionStep, arcStep, commentStep};
 use crate::limits::arc_fits;
 use crate::limits::junction_keeps;
 use crate::limits::town_keeps;
-use crate::numbers::Numbers;
-use crate::numbers::fences_read;
-use crate::numbers::numbers_end;
-use crate::numbers::within_if;
-use crate::speeds::speeds_read;
+use fields::field::Field;
+use fields::field::Rest;
+use fields::field::mark_at;
+use fields::field::name_at;
+use fields::field::printable;
+use fields::field::read_field;
 use refusals::refusal::Refusal;
+use series::numbers::Numbers;
+use series::numbers::fences_read;
+use series::numbers::numbers_end;
+use series::numbers::within_if;
+use series::speeds::speeds_read;
 use townfile::mark::ARC;
 use townfile::mark::COMMENT;
 use townfile::mark::FENCES;
 use townfile::mark::JUNCTION;
-use townfile::mark::SPACE;
 use townfile::mark::TOWN;
 use townfile::progress::Progress;
 
@@ -90,19 +91,6 @@ fn fences_line(progress: Progress, text: &[u8], at: usize) -> LineRead
         Numbers::Outside => LineRead::Fault(Refusal::FieldValue),
         Numbers::Malformed => LineRead::Fault(Refusal::FieldForm),
     }
-}
-
-// A space, and a name to the end of the line.
-fn name_at(text: &[u8], at: usize) -> Rest
-    ensures { λ r. ⌜ r ≡ nameAt (now (text .entry)) at ⌝ }
-{
-    if text.len() <= at {
-        return Rest::Malformed;
-    }
-    if text[at] != SPACE {
-        return Rest::Malformed;
-    }
-    name_rest(text, at + 1)
 }
 
 fn junction_line(progress: Progress, text: &[u8], at: usize) -> LineRead

@@ -10,8 +10,8 @@ use lib.Seq.{drop-cons, drop-drop, drop-length}
 use Rattle.model.proofs.Tests.{eqb-cases}
 use Rattle.townfile.specs.Bytes.{lineFeed, pieces}
 use Rattle.townfile.proofs.Pieces.{pieces-next, pieces-behind}
-use Rattle.reading.specs.Fields.{lineFrom}
-use Rattle.reading.proofs.LineFrom.{line-goes-on, line-later}
+use Rattle.fields.specs.Fields.{lineFrom}
+use Rattle.fields.proofs.LineFrom.{line-goes-on, line-later}
 
 module _ (text : List ℕ) (at : ℕ) where
   abbrev end : ℕ

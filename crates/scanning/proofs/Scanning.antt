@@ -18,10 +18,10 @@ use Rattle.townfile.specs.Lines.{lineRules, lineRead, lineAnswer}
 use Rattle.townfile.specs.FirstFault.{refusedAt, start, atEnd, onward, linesFrom, firstFault}
 use Rattle.townfile.specs.declared.progress.Progress.{Progress}
 use Rattle.townfile.proofs.Pieces.{pieces-next}
-use Rattle.reading.specs.Fields.{lineFrom}
+use Rattle.fields.specs.Fields.{lineFrom}
 use Rattle.reading.specs.LineSteps.{Step, step, lineStep}
 use Rattle.scanning.specs.Scans.{faultOf, unlessFault, wholeLine}
-use Rattle.reading.proofs.LineFrom.{line-inside}
+use Rattle.fields.proofs.LineFrom.{line-inside}
 use Rattle.scanning.proofs.RestLines.{next-lines, last-line}
 
 replied-same : {s t : Step} → replied s ≡ replied t → s ≡ t

@@ -8,7 +8,7 @@ use Rattle.refusals.specs.Refusals.{numberOf}
 use Rattle.model.specs.Rules.{Outcome, refused, replied}
 use Rattle.townfile.specs.FirstFault.{Reading, refusedAt, accepted}
 use Rattle.townfile.specs.declared.progress.Progress.{Progress}
-use Rattle.reading.specs.Fields.{lineFrom}
+use Rattle.fields.specs.Fields.{lineFrom}
 use Rattle.reading.specs.LineSteps.{Step, lineStep}
 use Rattle.scanning.specs.declared.scan.Scanned.{Scanned}
 use Rattle.scanning.specs.declared.scan.Scanned.the-variants.{Read, Refused}

@@ -6,7 +6,7 @@ ghost use Rattle.refusals.specs.Refusals.{numberOf};
 ghost use Rattle.townfile.specs.FirstFault.{firstFault};
 ghost use Rattle.reading.specs.LineSteps.{outcomeOf};
 ghost use Rattle.scanning.specs.Scans.{readingOf, faultOf, wholeLine};
-use reading::field::line_end;
+use fields::field::line_end;
 use reading::line::LineRead;
 use reading::line::read_line;
 use refusals::refusal::Refusal;

@@ -6,7 +6,7 @@ use lib.Dec.{ltb, eqb}
 use lib.ListN.{length}
 use Rattle.model.specs.Rules.{every}
 use Rattle.townfile.specs.Numbers.{numberKeeps}
-use Rattle.reading.specs.Fields.{lineFrom, wordFrom, fieldsFrom, numbersFrom}
+use Rattle.fields.specs.Fields.{lineFrom, wordFrom, fieldsFrom, numbersFrom}
 use Rattle.asking.specs.declared.line.Asked.{Asked}
 use Rattle.asking.specs.declared.line.Asked.the-variants.{Numbers, Malformed}
 

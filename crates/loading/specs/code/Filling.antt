@@ -10,7 +10,7 @@ use Rattle.townfile.specs.Numbers.{decimal}
 use Rattle.townfile.specs.Lines.{markFN, markAR, markAlone, numbersOf, numbersKeep}
 use Rattle.townfile.specs.Grammar.{Each, networkOf}
 use Rattle.townfile.specs.Tables.{marked, townOf}
-use Rattle.reading.specs.Fields.{lineFrom, wordFrom, numbersFrom, filledBy}
+use Rattle.fields.specs.Fields.{lineFrom, wordFrom, numbersFrom, filledBy}
 use Rattle.loading.specs.declared.fill.NumberTaken.{NumberTaken}
 
 -- The line from a place on ends before the text does: a line feed follows.

@@ -7,7 +7,7 @@ use lib.ListN.{length}
 use Rattle.townfile.specs.Lines.{markJN, markOf, markAlone, numberField, nameField, nameKeeps}
 use Rattle.townfile.specs.Numbers.{numberKeeps}
 use Rattle.townfile.specs.Name.{namesIt}
-use Rattle.reading.specs.Fields.{lineFrom}
+use Rattle.fields.specs.Fields.{lineFrom}
 use Rattle.naming.specs.declared.name.NameStart.{NameStart}
 use Rattle.naming.specs.declared.name.NameStart.the-variants.{At, Other}
 

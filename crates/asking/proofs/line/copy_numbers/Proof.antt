@@ -8,8 +8,8 @@ use lib.ListN.{length, take, length-set}
 use lib.Seq.{sets}
 use denote.Ref.{now}
 use Rattle.model.specs.Rules.{written}
-use Rattle.reading.specs.Fields.{numbersFrom}
-use Rattle.reading.proofs.NumbersLeft.{FieldRead, field-read}
+use Rattle.fields.specs.Fields.{numbersFrom}
+use Rattle.fields.proofs.FieldsLeft.{FieldRead, field-read}
 use Rattle.asking.specs.code.Counting.{onlyNumbers}
 use Rattle.asking.proofs.Counting.{only-goes-on, only-none-left}
 use Rattle.asking.proofs.Copying.{sets-outside, sets-written, number-copied}

@@ -5,7 +5,7 @@ use mathlib.Core.Path.{_≡_, refl, sym, _∙_}
 use native.Mathlib.Omega.{arith}
 use lib.ListN.{length}
 use denote.Ref.{now}
-use Rattle.reading.proofs.NumbersLeft.{FieldRead, field-read}
+use Rattle.fields.proofs.FieldsLeft.{FieldRead, field-read}
 use Rattle.asking.specs.code.Counting.{countedFrom}
 use Rattle.asking.proofs.Counting.{field-behind, count-goes-on, no-field, line-feed-found, text-ended}
 use Rattle.asking.proofs.line.count_numbers.Statement.{statement}

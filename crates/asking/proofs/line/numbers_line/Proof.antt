@@ -3,7 +3,7 @@ use borrow.Author.Needs.{needs}
 use mathlib.Core.Path.{_≡_, sym, _∙_}
 use denote.Ref.{now}
 use Rattle.townfile.specs.Lines.{markOf}
-use Rattle.reading.specs.Fields.{lineFrom}
+use Rattle.fields.specs.Fields.{lineFrom}
 use Rattle.asking.specs.Line.{firstLine}
 use Rattle.asking.specs.code.Counting.{countedFrom}
 use Rattle.asking.specs.declared.line.Asked.the-variants.{Numbers}

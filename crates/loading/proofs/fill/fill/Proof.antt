@@ -9,10 +9,10 @@ use lib.ListN.{length}
 use denote.Ref.{now}
 use Rattle.townfile.specs.Lines.{markFN, markAR, markOf, known}
 use Rattle.townfile.specs.Load.{tables}
-use Rattle.reading.specs.Fields.{lineFrom}
+use Rattle.fields.specs.Fields.{lineFrom}
 use Rattle.loading.specs.code.Filling.{EndsInside}
-use Rattle.reading.proofs.LineFrom.{line-inside}
-use Rattle.reading.proofs.BehindMark.{BehindMark, behind-mark}
+use Rattle.fields.proofs.LineFrom.{line-inside}
+use Rattle.fields.proofs.BehindMark.{BehindMark, behind-mark}
 use Rattle.loading.proofs.Filling.{FilledFrom, fillable-starts, fences-asked, fences-next, arc-asked, arc-next, other-next, filled-whole}
 use Rattle.loading.proofs.fill.fill.Statement.{statement}
 use Rattle.loading.proofs.fill.fill.Tie as tie

@@ -5,7 +5,7 @@ use mathlib.Core.Path.{_≡_}
 use mathlib.Core.Bool.{true}
 use native.Mathlib.Omega.{arith}
 use Rattle.model.specs.Rules.{every, speedKeeps}
-use Rattle.reading.specs.Fields.{numbersFrom}
+use Rattle.fields.specs.Fields.{numbersFrom}
 use Rattle.loading.proofs.Taking.{first-within, Stored, none-stored, next-asked, next-taking, one-stored, stored-to-end, all-stored}
 use Rattle.loading.proofs.fill.fill_speeds.Statement.{statement}
 use Rattle.loading.proofs.fill.fill_speeds.Tie as tie

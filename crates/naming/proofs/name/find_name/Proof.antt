@@ -7,7 +7,7 @@ use lib.ListN.{length}
 use denote.Ref.{now}
 use Rattle.naming.specs.code.Naming.{nameStart}
 use Rattle.naming.specs.declared.name.NameStart.the-variants.{At}
-use Rattle.reading.proofs.LineFrom.{line-inside}
+use Rattle.fields.proofs.LineFrom.{line-inside}
 use Rattle.naming.proofs.Naming.{NamesLeft, all-left, none-left, line-named, line-passed, starts-inside, name-found}
 use Rattle.naming.proofs.name.find_name.Statement.{statement}
 use Rattle.naming.proofs.name.find_name.Tie as tie

@@ -5,9 +5,9 @@ use mathlib.Core.Path.{_≡_, sym, _∙_}
 use native.Mathlib.Omega.{arith}
 use denote.Ref.{now}
 use Rattle.townfile.specs.Lines.{markJN, markOf}
-use Rattle.reading.specs.Fields.{lineFrom, fieldAt}
-use Rattle.reading.specs.declared.field.Field.the-variants.{Number}
-use Rattle.reading.proofs.LineFrom.{line-inside}
+use Rattle.fields.specs.Fields.{lineFrom, fieldAt}
+use Rattle.fields.specs.declared.field.Field.the-variants.{Number}
+use Rattle.fields.proofs.LineFrom.{line-inside}
 use Rattle.naming.proofs.Naming.{other-mark, other-junction, this-junction, name-begins, field-not-malformed, next-is}
 use Rattle.naming.proofs.name.name_start.Statement.{statement}
 use Rattle.naming.proofs.name.name_start.Tie as tie

@@ -1,4 +1,4 @@
--- `line::arc_fits`: each flag is the definition's test.
+-- `limits::arc_fits`: each flag is the definition's test.
 use borrow.Author.Needs.{needs}
 use Rattle.reading.proofs.limits.arc_fits.Statement.{statement}
 use Rattle.reading.proofs.limits.arc_fits.Tie as tie

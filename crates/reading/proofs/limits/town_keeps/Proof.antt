@@ -1,4 +1,4 @@
--- `line::town_keeps`: each flag is the definition's test.
+-- `limits::town_keeps`: each flag is the definition's test.
 use borrow.Author.Needs.{needs}
 use Rattle.reading.proofs.limits.town_keeps.Statement.{statement}
 use Rattle.reading.proofs.limits.town_keeps.Tie as tie

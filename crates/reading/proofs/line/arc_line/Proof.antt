@@ -5,8 +5,8 @@ use Prim.Native.Nat.{_+_}
 use native.Mathlib.Omega.{arith}
 use denote.Ref.{now}
 use Rattle.townfile.specs.Lines.{arcKeeps}
-use Rattle.reading.specs.LineSteps.{numbersRead}
-use Rattle.reading.specs.declared.numbers.Numbers.the-variants.{Within}
+use Rattle.series.specs.NumbersRead.{numbersRead}
+use Rattle.series.specs.declared.numbers.Numbers.the-variants.{Within}
 use Rattle.reading.proofs.Steps.{arc-out-of-turn, arc-in-turn, arc-counted}
 use Rattle.reading.proofs.line.arc_line.Statement.{statement}
 use Rattle.reading.proofs.line.arc_line.Tie as tie

@@ -2,8 +2,8 @@
 use borrow.Author.Needs.{needs}
 use mathlib.Core.Path.{_≡_, sym, _∙_}
 use denote.Ref.{now}
-use Rattle.reading.specs.Fields.{fieldAt}
-use Rattle.reading.specs.declared.field.Field.the-variants.{Number}
+use Rattle.fields.specs.Fields.{fieldAt}
+use Rattle.fields.specs.declared.field.Field.the-variants.{Number}
 use Rattle.reading.proofs.Steps.{arc-no-tail, arc-no-head, arc-no-metres, arc-numbers}
 use Rattle.reading.proofs.line.arc_read.Statement.{statement}
 use Rattle.reading.proofs.line.arc_read.Tie as tie

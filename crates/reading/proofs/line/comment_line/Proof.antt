@@ -1,7 +1,7 @@
 -- `line::comment_line`: nothing more, or a space and bytes that can be printed.
 use borrow.Author.Needs.{needs}
 use mathlib.Core.Path.{sym, _∙_}
-use Rattle.reading.proofs.LineFrom.{line-ends, line-feed-ends}
+use Rattle.fields.proofs.LineFrom.{line-ends, line-feed-ends}
 use Rattle.reading.proofs.Steps.{comment-ends, comment-attached, comment-behind-gap}
 use Rattle.reading.proofs.line.comment_line.Statement.{statement}
 use Rattle.reading.proofs.line.comment_line.Tie as tie

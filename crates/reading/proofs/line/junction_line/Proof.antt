@@ -4,10 +4,10 @@ use mathlib.Core.Path.{_≡_, sym, _∙_}
 use native.Mathlib.Omega.{arith}
 use borrow.Author.Tests.{not-true, not-false}
 use denote.Ref.{now}
-use Rattle.reading.specs.Fields.{fieldAt}
-use Rattle.reading.specs.LineSteps.{nameAt}
-use Rattle.reading.specs.declared.field.Field.the-variants.{Number}
-use Rattle.reading.specs.declared.field.Rest.the-variants.{Good}
+use Rattle.fields.specs.Fields.{fieldAt}
+use Rattle.fields.specs.Fields.{nameAt}
+use Rattle.fields.specs.declared.field.Field.the-variants.{Number}
+use Rattle.fields.specs.declared.field.Rest.the-variants.{Good}
 use Rattle.reading.proofs.Steps.{junction-out-of-turn, junction-in-turn, junction-with-name, junction-outside, junction-named, junction-below}
 use Rattle.reading.proofs.line.junction_line.Statement.{statement}
 use Rattle.reading.proofs.line.junction_line.Tie as tie

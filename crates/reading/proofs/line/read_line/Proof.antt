@@ -8,8 +8,8 @@ use denote.Ref.{now}
 use mir.Val.{Fits}
 use mir.Syntax.{w64}
 use Rattle.townfile.specs.Lines.{markTN, markFN, markJN, markAR, markCM, markOf, known}
-use Rattle.reading.specs.Fields.{lineFrom}
-use Rattle.reading.proofs.BehindMark.{BehindMark, behind-mark}
+use Rattle.fields.specs.Fields.{lineFrom}
+use Rattle.fields.proofs.BehindMark.{BehindMark, behind-mark}
 use Rattle.reading.proofs.LineMarks.{town-line-is, fences-line-is, junction-line-is, arc-line-is, comment-line-is, no-line-is}
 use Rattle.reading.proofs.line.read_line.Statement.{statement}
 use Rattle.reading.proofs.line.read_line.Tie as tie

@@ -2,8 +2,8 @@
 use borrow.Author.Needs.{needs}
 use mathlib.Core.Path.{_≡_, sym, _∙_}
 use denote.Ref.{now}
-use Rattle.reading.specs.Fields.{fieldAt}
-use Rattle.reading.specs.declared.field.Field.the-variants.{Number}
+use Rattle.fields.specs.Fields.{fieldAt}
+use Rattle.fields.specs.declared.field.Field.the-variants.{Number}
 use Rattle.reading.proofs.Steps.{town-out-of-turn, town-no-first, town-no-second, town-in-turn}
 use Rattle.reading.proofs.line.town_line.Statement.{statement}
 use Rattle.reading.proofs.line.town_line.Tie as tie

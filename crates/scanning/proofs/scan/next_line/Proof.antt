@@ -6,7 +6,7 @@ use native.Mathlib.Omega.{arith}
 use lib.ListN.{length}
 use denote.Ref.{now}
 use Rattle.model.specs.Rules.{replied}
-use Rattle.reading.specs.Fields.{lineFrom}
+use Rattle.fields.specs.Fields.{lineFrom}
 use Rattle.reading.specs.LineSteps.{step, outcomeOf, lineStep}
 use Rattle.scanning.proofs.Scanning.{line-without-feed, line-too-long, line-of-bytes, line-faults, read-ends}
 use Rattle.scanning.proofs.scan.next_line.Statement.{statement}

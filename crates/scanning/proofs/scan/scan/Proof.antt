@@ -10,7 +10,7 @@ use lib.ListN.{length, drop}
 use Rattle.townfile.specs.Bytes.{lineFeed, pieces}
 use Rattle.townfile.specs.FirstFault.{atEnd, linesFrom, firstFault}
 use Rattle.reading.specs.LineSteps.{outcomeOf}
-use Rattle.reading.specs.Fields.{lineFrom}
+use Rattle.fields.specs.Fields.{lineFrom}
 use Rattle.scanning.proofs.Scanning.{text-too-long, scan-starts, scan-refused, scan-goes-on, scan-ends}
 use Rattle.scanning.proofs.scan.scan.Statement.{statement}
 use Rattle.scanning.proofs.scan.scan.Tie as tie

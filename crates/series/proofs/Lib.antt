@@ -1,0 +1,3 @@
+pub mod NumberLoops
+pub mod NumbersLeft
+pub mod ShortSpeeds

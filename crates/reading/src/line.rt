@@ -5,7 +5,7 @@ ghost use Prim.Native.Nat.{_+_};
 ghost use Rattle.townfile.specs.Lines.{arcKeeps};
 ghost use Rattle.series.specs.NumbersRead.{numbersRead};
 ghost use Rattle.reading.specs.LineSteps.{outcomeOf, lineStep};
-ghost use Rattle.reading.specs.code.Kinds.{townStep, fencesStep, junctionStep, arcStep, commentStep};
+ghost use Rattle.reading.specs.code.Kinds.{ofNumbers, townStep, fencesStep, junctionStep, arcStep, commentStep};
 use crate::limits::arc_fits;
 use crate::limits::junction_keeps;
 use crate::limits::town_keeps;
@@ -33,6 +33,20 @@ pub enum LineRead {
     Fault(Refusal),
 }
 
+// A line of numbers, and the progress behind it.
+fn of_numbers(numbers: Numbers, next: Progress) -> LineRead
+    ensures { λ r. ⌜ outcomeOf r ≡ ofNumbers numbers next ⌝ }
+{
+    match numbers {
+        Numbers::Within(end) => LineRead::Next {
+            progress: next,
+            end,
+        },
+        Numbers::Outside => LineRead::Fault(Refusal::FieldValue),
+        Numbers::Malformed => LineRead::Fault(Refusal::FieldForm),
+    }
+}
+
 // ---- A line of each kind, from the place behind its mark
 
 fn town_line(progress: Progress, text: &[u8], at: usize) -> LineRead
@@ -55,20 +69,15 @@ fn town_line(progress: Progress, text: &[u8], at: usize) -> LineRead
     else {
         return LineRead::Fault(Refusal::FieldForm);
     };
-    match numbers_end(text, end, town_keeps(junctions, intervals)) {
-        Numbers::Within(end) => LineRead::Next {
-            progress: Progress {
-                turn: 1,
-                junctions,
-                intervals,
-                unnamed: progress.unnamed,
-                arcs: progress.arcs,
-            },
-            end,
-        },
-        Numbers::Outside => LineRead::Fault(Refusal::FieldValue),
-        Numbers::Malformed => LineRead::Fault(Refusal::FieldForm),
-    }
+    let next = Progress {
+        turn: 1,
+        junctions,
+        intervals,
+        unnamed: progress.unnamed,
+        arcs: progress.arcs,
+    };
+    let numbers = numbers_end(text, end, town_keeps(junctions, intervals));
+    of_numbers(numbers, next)
 }
 
 fn fences_line(progress: Progress, text: &[u8], at: usize) -> LineRead
@@ -77,20 +86,15 @@ fn fences_line(progress: Progress, text: &[u8], at: usize) -> LineRead
     if progress.turn != 1 {
         return LineRead::Fault(Refusal::MarkOutOfTurn);
     }
-    match fences_read(text, at, progress.intervals) {
-        Numbers::Within(end) => LineRead::Next {
-            progress: Progress {
-                turn: 2,
-                junctions: progress.junctions,
-                intervals: progress.intervals,
-                unnamed: progress.unnamed,
-                arcs: progress.arcs,
-            },
-            end,
-        },
-        Numbers::Outside => LineRead::Fault(Refusal::FieldValue),
-        Numbers::Malformed => LineRead::Fault(Refusal::FieldForm),
-    }
+    let next = Progress {
+        turn: 2,
+        junctions: progress.junctions,
+        intervals: progress.intervals,
+        unnamed: progress.unnamed,
+        arcs: progress.arcs,
+    };
+    let numbers = fences_read(text, at, progress.intervals);
+    of_numbers(numbers, next)
 }
 
 fn junction_line(progress: Progress, text: &[u8], at: usize) -> LineRead
@@ -159,19 +163,20 @@ fn arc_line(progress: Progress, text: &[u8], at: usize) -> LineRead
     if progress.turn < 2 {
         return LineRead::Fault(Refusal::MarkOutOfTurn);
     }
-    match arc_read(progress, text, at) {
-        Numbers::Within(end) => LineRead::Next {
-            progress: Progress {
-                turn: 3,
-                junctions: progress.junctions,
-                intervals: progress.intervals,
-                unnamed: progress.unnamed,
-                arcs: progress.arcs + 1,
-            },
-            end,
+    let numbers = arc_read(progress, text, at);
+    // Only an arc within the limits is counted.
+    let Numbers::Within(end) = numbers else {
+        return of_numbers(numbers, progress);
+    };
+    LineRead::Next {
+        progress: Progress {
+            turn: 3,
+            junctions: progress.junctions,
+            intervals: progress.intervals,
+            unnamed: progress.unnamed,
+            arcs: progress.arcs + 1,
         },
-        Numbers::Outside => LineRead::Fault(Refusal::FieldValue),
-        Numbers::Malformed => LineRead::Fault(Refusal::FieldForm),
+        end,
     }
 }
 

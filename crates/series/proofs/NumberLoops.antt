@@ -1,48 +1,35 @@
--- The loops over the numbers of a line. A test of the numbers left, behind a flag for those that have been read, is the test of all.
+-- The loops over the numbers of a line. At each turn the numbers left, behind a flag for those that have been read, come to what all
+-- of them come to. A number is tested alone, or by what stands before it: then the test of the numbers left changes with each.
 use Prim.Native.Nat.{ℕ, zero, suc, _+_, _-_, _≤_, _<_}
-use mathlib.Core.Path.{_≡_, refl, sym, _∙_}
+use mathlib.Core.Path.{_≡_, refl, sym, ap, _∙_}
 use mathlib.Core.Bool.{Bool, true, false, cond, _&&_}
 use mathlib.Core.List.{List, [], _∷_}
 use native.Mathlib.Omega.{arith}
 use lib.Dec.{eqb, eqb·suc-zero}
 use lib.ListN.{length}
 use borrow.Author.Tests.{ne-eqb}
-use Rattle.model.specs.Rules.{every, riseFrom, fencesKeep, speedKeeps}
+use Rattle.model.specs.Rules.{every, riseFrom, fencesKeep}
 use Rattle.townfile.specs.Bytes.{pieces, upTo}
 use Rattle.fields.specs.Fields.{lineFrom, fieldAt, numbersFrom}
+use Rattle.fields.specs.declared.field.Field.the-variants as field
+use Rattle.fields.proofs.FieldsLeft.{field-read, no-bytes}
 use Rattle.series.specs.NumbersRead.{numbersRead}
 use Rattle.series.specs.code.Fences.{fenceKeeps}
-use Rattle.fields.specs.declared.field.Field.the-variants as field
 use Rattle.series.specs.declared.numbers.Numbers.the-variants.{Malformed}
-use Rattle.fields.proofs.FieldsLeft.{field-read, no-bytes}
-use Rattle.series.proofs.NumbersLeft.{numbers-go-on, numbers-malformed, numbers-not-ended}
+use Rattle.series.proofs.NumbersLeft.{numbers-same, numbers-go-on, numbers-malformed, numbers-not-ended}
 
 -- ---- Any test
 
-pub numbers-same : (test test′ : List ℕ → Bool) (count : ℕ) (text : List ℕ) (at : ℕ) → test (numbersFrom text at) ≡ test′ (numbersFrom text at) → numbersRead test count text at ≡ numbersRead test′ count text at
-unfolding numbersRead
-numbers-same test test′ count text at e = rw e
+-- Behind k numbers and a flag for them, what is left from a place on comes to what all numbers come to.
+pub record Left (all : List ℕ → Bool) (text : List ℕ) (at count : ℕ) (within : Bool) (left : List ℕ → Bool) (k i : ℕ) : Type 0 where
+  pub same : numbersRead (λ numbers. within && left numbers) (count - k) text i ≡ numbersRead all count text at
 
-pub all-left : (test test′ : List ℕ → Bool) (count : ℕ) (text : List ℕ) (at : ℕ) → test (numbersFrom text at) ≡ test′ (numbersFrom text at) → numbersRead test (count - 0) text at ≡ numbersRead test′ count text at
-all-left test test′ count text at e =
-    let whole : count - 0 ≡ count = omega arith in
-    rw whole (numbers-same test test′ count text at e)
+pub all-left : (all : List ℕ → Bool) (text : List ℕ) (at count : ℕ) → Left all text at count true all 0 at
+all-left all text at count = record { same = ap (λ some. numbersRead all some text at) (omega arith) }
 
-module _ (test : List ℕ → Bool) (text : List ℕ) (count k i : ℕ) (more : k < count) where
-  left-is : count - k ≡ suc (count - (k + 1))
-  left-is = omega arith
-
-  pub left-malformed : fieldAt text i ≡ field.Malformed → Malformed ≡ numbersRead test (count - k) text i
-  left-malformed e = rw left-is (numbers-malformed text i test (count - (k + 1)) e)
-
-  pub left-goes-on : {value next : ℕ} (test′ : List ℕ → Bool) → fieldAt text i ≡ field.Number value next → ((numbers : List ℕ) → test′ numbers ≡ test (value ∷ numbers)) →
-      numbersRead test′ (count - (k + 1)) text next ≡ numbersRead test (count - k) text i
-  left-goes-on {value} {next} test′ e same =
-      numbers-same test′ (λ numbers. test (value ∷ numbers)) (count - (k + 1)) text next (same (numbersFrom text next))
-      ∙ sym (numbers-go-on text i value next (field-read text i e) test (count - (k + 1)))
-      ∙ rw left-is
-
-last-test : (test : List ℕ → Bool) (text : List ℕ) (i : ℕ) (within : Bool) → within ≡ test [] → numbersRead (λ numbers. within) 0 text i ≡ numbersRead test 0 text i
+-- No number is left: the flag decides.
+last-test : (test : List ℕ → Bool) (text : List ℕ) (i : ℕ) (within : Bool) → within ≡ test [] →
+    numbersRead (λ numbers. within) 0 text i ≡ numbersRead test 0 text i
 unfolding numbersRead pieces upTo every
 last-test test text i within e = go (eqb (length (lineFrom text i)) 0) refl
   where
@@ -50,28 +37,52 @@ last-test test text i within e = go (eqb (length (lineFrom text i)) 0) refl
     go true end = rw (no-bytes (lineFrom text i) end, e)
     go false end = sym (numbers-not-ended text i (λ numbers. within) end) ∙ numbers-not-ended text i test end
 
-pub none-left : (test : List ℕ → Bool) (text : List ℕ) (count k i : ℕ) (within : Bool) → k ≤ count → count ≤ k → within ≡ test [] → numbersRead (λ numbers. within) 0 text i ≡ numbersRead test (count - k) text i
-none-left test text count k i within most least e =
-    let none : count - k ≡ 0 = omega arith in
-    rw none (last-test test text i within e)
+-- The flag with one number more.
+flag-goes-on : (within keeps rest : Bool) → ((within && keeps) && rest) ≡ (within && (keeps && rest))
+flag-goes-on true keeps rest = refl
+flag-goes-on false keeps rest = refl
 
--- ---- Speeds
+flag-alone : (within : Bool) → within ≡ (within && true)
+flag-alone true = refl
+flag-alone false = refl
 
-abbrev pub speedsTest : Bool → List ℕ → Bool
-speedsTest within speeds = within && every speedKeeps speeds
+module _ {all : List ℕ → Bool} {text : List ℕ} {at count : ℕ} {within : Bool} {left : List ℕ → Bool} {k i : ℕ} (here : Left all text at count within left k i) where
+  abbrev flagged : List ℕ → Bool
+  flagged numbers = within && left numbers
 
-pub speeds-test-goes : (within : Bool) (speed : ℕ) {within′ : Bool} → within′ ≡ (within && speedKeeps speed) → (speeds : List ℕ) → speedsTest within′ speeds ≡ speedsTest within (speed ∷ speeds)
-unfolding every
-speeds-test-goes within speed e speeds = rw e (go within)
-  where
-    go : (flag : Bool) → speedsTest (flag && speedKeeps speed) speeds ≡ speedsTest flag (speed ∷ speeds)
-    go true = refl
-    go false = refl
+  -- Where a number is left.
+  module _ (more : k < count) where
+    left-is : count - k ≡ suc (count - (k + 1))
+    left-is = omega arith
 
-pub speeds-test-ends : (within : Bool) → within ≡ speedsTest within []
-unfolding every
-speeds-test-ends true = refl
-speeds-test-ends false = refl
+    pub left-malformed : fieldAt text i ≡ field.Malformed → Malformed ≡ numbersRead all count text at
+    left-malformed e = rw left-is (numbers-malformed text i flagged (count - (k + 1)) e) ∙ here .same
+
+    pub left-goes-on : {value next : ℕ} {within′ : Bool} (keeps : Bool) (left′ : List ℕ → Bool) →
+        fieldAt text i ≡ field.Number value next → within′ ≡ (within && keeps) → ((numbers : List ℕ) → left (value ∷ numbers) ≡ (keeps && left′ numbers)) → Left all text at count within′ left′ (k + 1) next
+    left-goes-on {value} {next} {within′} keeps left′ e flag goes =
+        let rest = numbersFrom text next in
+        let test : (within′ && left′ rest) ≡ flagged (value ∷ rest) = rw (flag, goes rest) (flag-goes-on within keeps (left′ rest)) in
+        let taken = numbers-go-on text i value next (field-read text i e) flagged (count - (k + 1)) in
+        record {
+          same =
+              numbers-same (λ numbers. within′ && left′ numbers) (λ numbers. flagged (value ∷ numbers)) (count - (k + 1)) text next test
+              ∙ sym taken
+              ∙ ap (λ some. numbersRead flagged some text i) (sym left-is)
+              ∙ here .same;
+        }
+
+    -- A number that is tested together with those behind it.
+    pub left-taken : {value next : ℕ} → fieldAt text i ≡ field.Number value next → Left all text at count within (λ numbers. left (value ∷ numbers)) (k + 1) next
+    left-taken {value} e = left-goes-on true (λ numbers. left (value ∷ numbers)) e (flag-alone within) (λ numbers. refl)
+
+  pub left-decides : count ≤ k → {kept : Bool} → kept ≡ (within && left []) → numbersRead (λ numbers. kept) 0 text i ≡ numbersRead all count text at
+  left-decides least {kept} decides =
+      let ended : count - k ≡ 0 = omega arith in
+      last-test flagged text i kept decides ∙ ap (λ some. numbersRead flagged some text i) (sym ended) ∙ here .same
+
+  pub left-ends : count ≤ k → left [] ≡ true → numbersRead (λ numbers. within) 0 text i ≡ numbersRead all count text at
+  left-ends least none = left-decides least (flag-alone within ∙ ap (λ kept. within && kept) (sym none))
 
 -- ---- Fences
 
@@ -79,23 +90,13 @@ speeds-test-ends false = refl
 abbrev pub fencesLeftKeep : ℕ → ℕ → List ℕ → Bool
 fencesLeftKeep k before fences = cond (eqb k 0) (fencesKeep fences) (riseFrom before fences)
 
-abbrev pub fencesTest : Bool → ℕ → ℕ → List ℕ → Bool
-fencesTest within k before fences = within && fencesLeftKeep k before fences
-
-fences-left : (k before fence : ℕ) (fences : List ℕ) → (fenceKeeps k before fence && fencesLeftKeep (k + 1) fence fences) ≡ fencesLeftKeep k before (fence ∷ fences)
+pub fence-goes : (k before fence : ℕ) {keeps : Bool} → keeps ≡ fenceKeeps k before fence → (fences : List ℕ) →
+    fencesLeftKeep k before (fence ∷ fences) ≡ (keeps && fencesLeftKeep (k + 1) fence fences)
 unfolding riseFrom fencesKeep
-fences-left zero before fence fences = refl
-fences-left (suc k) before fence fences = rw (eqb·suc-zero k, ne-eqb (suc k + 1) 0 (λ e. omega arith))
+fence-goes zero before fence e fences = rw e
+fence-goes (suc k) before fence e fences = rw (e, eqb·suc-zero k, ne-eqb (suc k + 1) 0 (λ e. omega arith))
 
-pub fences-test-goes : (within : Bool) (k before fence : ℕ) {within′ keeps : Bool} → within′ ≡ (within && keeps) → keeps ≡ fenceKeeps k before fence → (fences : List ℕ) → fencesTest within′ (k + 1) fence fences ≡ fencesTest within k before (fence ∷ fences)
-fences-test-goes within k before fence e f fences = rw (e, f) (go within)
-  where
-    go : (flag : Bool) → fencesTest (flag && fenceKeeps k before fence) (k + 1) fence fences ≡ fencesTest flag k before (fence ∷ fences)
-    go true = fences-left k before fence fences
-    go false = refl
-
-pub fences-test-ends : (within : Bool) (k before : ℕ) → within ≡ fencesTest within k before []
+pub no-fence : (k before : ℕ) → fencesLeftKeep k before [] ≡ true
 unfolding riseFrom fencesKeep
-fences-test-ends false k before = refl
-fences-test-ends true zero before = refl
-fences-test-ends true (suc k) before = rw (eqb·suc-zero k)
+no-fence zero before = refl
+no-fence (suc k) before = rw (eqb·suc-zero k)

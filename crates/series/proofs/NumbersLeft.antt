@@ -42,6 +42,12 @@ module _ (text : List ℕ) (at : ℕ) where
   pub numbers-outside : {within : Bool} → within ≡ false → eqb (length (lineFrom text at)) 0 ≡ true → Outside ≡ numbersRead (λ numbers. within) 0 text at
   numbers-outside {within} w e = rw w (numbers-ended false e)
 
+-- Tests that agree on the numbers.
+pub numbers-same : (test test′ : List ℕ → Bool) (count : ℕ) (text : List ℕ) (at : ℕ) → test (numbersFrom text at) ≡ test′ (numbersFrom text at) →
+    numbersRead test count text at ≡ numbersRead test′ count text at
+unfolding numbersRead
+numbers-same test test′ count text at e = rw e
+
 -- A further test.
 pub within-both : (fits : Bool) (test : List ℕ → Bool) (count : ℕ) (text : List ℕ) (at : ℕ) → withinIf (numbersRead test count text at) fits ≡ numbersRead (λ numbers. fits && test numbers) count text at
 unfolding numbersRead

@@ -16,7 +16,6 @@ use Rattle.townfile.specs.Grammar.{Number}
 use Rattle.townfile.proofs.Between.{every-between}
 use Rattle.townfile.proofs.NumberForm.{number-keeps}
 use Rattle.fields.specs.Fields.{wordFrom, fieldAt}
-use Rattle.series.specs.NumbersRead.{numbersRead}
 use Rattle.series.specs.code.ShortSpeeds.{ReadTo, SpeedWord, ShortWord, ShortField, ShortRow}
 use Rattle.fields.specs.declared.field.Field.the-variants as field
 use Rattle.series.specs.declared.speeds.ShortRead.{ShortRead}
@@ -24,7 +23,7 @@ use Rattle.series.specs.declared.speeds.ShortRead.the-variants.{To, Unsu
 use Rattle.fields.proofs.LineFrom.{line-feed-ends, line-goes-on, word-ends, space-ends}
 use Rattle.fields.proofs.Digits.{digit-is, digit-bounds, digit-word}
 use Rattle.series.proofs.NumbersLeft.{numbers-within}
-use Rattle.series.proofs.NumberLoops.{all-left, left-goes-on, none-left}
+use Rattle.series.proofs.NumberLoops.{Left, left-goes-on, left-ends}
 
 pub reached-at : (holds : ℕ → Type 0) {read : ShortRead} {end : ℕ} → read ≡ To end → ReadTo holds read → holds end
 reached-at holds e h = subst (ReadTo holds) e h
@@ -125,20 +124,17 @@ field-is text at end inside read e =
 
 -- What is left of it behind k numbers comes to what the whole comes to, if a word ends there.
 abbrev pub RowLeft : List ℕ → ℕ → ℕ → ℕ → ℕ → Type 0
-RowLeft text at count k i = wordFrom text i ≡ [] → numbersRead (every speedKeeps) (count - k) text i ≡ numbersRead (every speedKeeps) count text at
-
-pub row-begins : (text : List ℕ) (at count : ℕ) → RowLeft text at count 0 at
-row-begins text at count e = all-left (every speedKeeps) (every speedKeeps) count text at refl
+RowLeft text at count k i = wordFrom text i ≡ [] → Left (every speedKeeps) text at count true (every speedKeeps) k i
 
 module _ (text : List ℕ) (at count k i : ℕ) (left : RowLeft text at count k i) (inside : i < length text) where
   pub row-goes-on : k < count → {next : ℕ} → ShortField text i next → RowLeft text at count (k + 1) next
   unfolding every
   row-goes-on more {next} read e =
-      left-goes-on (every speedKeeps) text count k i more (every speedKeeps) (field-is text i next inside read e) (λ numbers. rw (read .digits .word e .limit))
-      ∙ left (space-ends text i inside (read .gap))
+      let here = left (space-ends text i inside (read .gap)) in
+      left-goes-on here more true (every speedKeeps) (field-is text i next inside read e) refl (λ speeds. rw (read .digits .word e .limit))
 
-  pub row-ends : k ≤ count → count ≤ k → getD text i 0 ≡ lineFeed → ShortRow text at count i
+  pub row-ends : count ≤ k → getD text i 0 ≡ lineFeed → ShortRow text at count i
   unfolding every
-  row-ends most least feed =
+  row-ends least feed =
       let ended = line-feed-ends text i inside feed in
-      numbers-within text i {within = true} refl (rw ended) ∙ none-left (every speedKeeps) text count k i true most least refl ∙ left (word-ends text i ended)
+      numbers-within text i {within = true} refl (rw ended) ∙ left-ends (left (word-ends text i ended)) least refl

@@ -1,37 +1,48 @@
 -- `line::arc_line`: its turn, then what its numbers come to.
 use borrow.Author.Needs.{needs}
-use mathlib.Core.Path.{_≡_, sym, _∙_}
-use Prim.Native.Nat.{_+_}
+use Prim.Native.Nat.{ℕ}
+use mathlib.Core.Path.{_≡_, refl, sym, _∙_}
+use mathlib.Core.Logic.{inl, inr}
 use native.Mathlib.Omega.{arith}
+use borrow.Author.Tests.{le-leb, lt-leb}
 use denote.Ref.{now}
-use Rattle.townfile.specs.Lines.{arcKeeps}
-use Rattle.series.specs.NumbersRead.{numbersRead}
+use Rattle.townfile.specs.Lines.{arcRead}
+use Rattle.series.specs.declared.numbers.Numbers.{Numbers}
 use Rattle.series.specs.declared.numbers.Numbers.the-variants.{Within}
-use Rattle.reading.proofs.Steps.{arc-out-of-turn, arc-in-turn, arc-counted}
+use Rattle.reading.specs.code.Kinds.{ofNumbers, arcStep}
+use Rattle.reading.proofs.Steps.{numbers-in-turn, refused-alike, arc-counted}
 use Rattle.reading.proofs.line.arc_line.Statement.{statement}
 use Rattle.reading.proofs.line.arc_line.Tie as tie
 
-abbrev start : tie.After-struct-known2 → tie.Start
-start c = c .before .before .before .before .before .before .before .before
+abbrev start : tie.After-arc-read → tie.Start
+start c = c .before .before .before .before
 
 returns : tie.Need-returns
-returns c = arc-out-of-turn _ _ _ (c .if1 .taken)
+unfolding arcStep
+returns c = rw (lt-leb 2 _ (c .if1 .taken))
 
--- the arc is within the limits
-within : (c : tie.After-struct-known2) → Within (c .before .before .end .given .0 .0) ≡ numbersRead (arcKeeps (start c .args .progress)) (3 + start c .args .progress .intervals) (now (start c .args .text)) (start c .args .at)
-within c = sym (c .before .before .end .given .1) ∙ c .before .before .before .before .arc-read .ensures
-
-add-t9 : tie.Need-add-t9
-add-t9 c = record { fits = omega (arith, arc-counted (start c .args .progress) (now (start c .args .text)) (start c .args .at) (within c)) }
+in-turn : (c : tie.After-arc-read) {numbers : Numbers} → c .arc-read .result ≡ numbers →
+    ofNumbers numbers (arcRead (start c .args .progress)) ≡ arcStep (start c .args .progress) (now (start c .args .text)) (start c .args .at)
+unfolding arcStep
+in-turn c e = numbers-in-turn _ (arcRead (start c .args .progress)) (le-leb 2 _ (c .before .if1 .left)) (sym e ∙ c .arc-read .ensures)
 
 returns-2 : tie.Need-returns-2
-returns-2 c = arc-in-turn _ _ _ (c .before .before .before .before .before .if1 .left) (within c)
+returns-2 c =
+    let read = c .before .before in
+    let other : (end : ℕ) → read .arc-read .result ≡ Within end → ⊥ = λ end e. elim (c .before .match .keys2) [
+      | inl tag ↦ (let none : _≡_ {A = ℕ} 0 1 = rw e at tag in omega arith)
+      | inr tag ↦ (let none : _≡_ {A = ℕ} 0 2 = rw e at tag in omega arith)
+    ] in
+    c .of-numbers .ensures ∙ refused-alike _ _ (read .arc-read .result) other ∙ in-turn read refl
+
+add-t8 : tie.Need-add-t8
+add-t8 c =
+    let read = c .before .before .before .before in
+    let within = sym (c .before .before .numbers .given .1) ∙ read .arc-read .ensures in
+    record { fits = omega (arith, arc-counted (start read .args .progress) _ _ within) }
 
 returns-3 : tie.Need-returns-3
-returns-3 c = let read = c .before .before in arc-in-turn _ _ _ (read .before .if1 .left) (sym (c .enum-told .given .1) ∙ read .arc-read .ensures)
-
-returns-4 : tie.Need-returns-4
-returns-4 c = let read = c .before .before in arc-in-turn _ _ _ (read .before .if1 .left) (sym (c .enum-told2 .given .1) ∙ read .arc-read .ensures)
+returns-3 c = in-turn (c .before .before .before .before) (c .before .before .numbers .given .1)
 
 pub arc-line-spec : {M : Type 1} → statement M
 arc-line-spec =
@@ -40,9 +51,7 @@ arc-line-spec =
     returns
     (λ c κs. search needs)
     (λ c. search needs)
-    add-t9
-    (λ c. search needs)
-    (λ c. search needs)
+    (λ c κs. search needs)
     returns-2
-    returns-3
-    returns-4)
+    add-t8
+    returns-3)

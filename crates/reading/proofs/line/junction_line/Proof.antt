@@ -2,13 +2,14 @@
 use borrow.Author.Needs.{needs}
 use mathlib.Core.Path.{_≡_, sym, _∙_}
 use native.Mathlib.Omega.{arith}
-use borrow.Author.Tests.{not-true, not-false}
+use borrow.Author.Tests.{ne-eqb, not-true, not-false}
 use denote.Ref.{now}
 use Rattle.fields.specs.Fields.{fieldAt}
 use Rattle.fields.specs.Fields.{nameAt}
 use Rattle.fields.specs.declared.field.Field.the-variants.{Number}
 use Rattle.fields.specs.declared.field.Rest.the-variants.{Good}
-use Rattle.reading.proofs.Steps.{junction-out-of-turn, junction-in-turn, junction-with-name, junction-outside, junction-named, junction-below}
+use Rattle.reading.specs.code.Kinds.{junctionStep}
+use Rattle.reading.proofs.Steps.{junction-in-turn, junction-with-name, junction-outside, junction-named, junction-below}
 use Rattle.reading.proofs.line.junction_line.Statement.{statement}
 use Rattle.reading.proofs.line.junction_line.Tie as tie
 
@@ -22,7 +23,8 @@ name-read : (c : tie.After-known-told2) → Good (c .before .end .given .0 .0) �
 name-read c = sym (c .before .end .given .1) ∙ c .before .before .before .name-at .ensures
 
 returns : tie.Need-returns
-returns c = junction-out-of-turn _ _ _ (c .if1 .taken)
+unfolding junctionStep
+returns c = rw (ne-eqb _ 2 (c .if1 .taken))
 
 returns-2 : tie.Need-returns-2
 returns-2 c = junction-in-turn _ _ _ (c .before .before .before .if1 .left) (sym (c .enum-told .given .1) ∙ c .before .before .read-field .ensures)

@@ -1,10 +1,12 @@
 -- `line::town_line`: its turn, then its two fields.
 use borrow.Author.Needs.{needs}
 use mathlib.Core.Path.{_≡_, sym, _∙_}
+use borrow.Author.Tests.{ne-eqb}
 use denote.Ref.{now}
 use Rattle.fields.specs.Fields.{fieldAt}
 use Rattle.fields.specs.declared.field.Field.the-variants.{Number}
-use Rattle.reading.proofs.Steps.{town-out-of-turn, town-no-first, town-no-second, town-in-turn}
+use Rattle.reading.specs.code.Kinds.{townStep}
+use Rattle.reading.proofs.Steps.{town-no-first, town-no-second, town-numbers}
 use Rattle.reading.proofs.line.town_line.Statement.{statement}
 use Rattle.reading.proofs.line.town_line.Tie as tie
 
@@ -19,7 +21,8 @@ intervals-read : (c : tie.After-known-told2) →
 intervals-read c = sym (c .before .before .before .read-field2 .ensures) ∙ c .before .intervals .given .1
 
 returns : tie.Need-returns
-returns c = town-out-of-turn _ _ _ (c .if1 .taken)
+unfolding townStep
+returns c = rw (ne-eqb _ 0 (c .if1 .taken))
 
 returns-2 : tie.Need-returns-2
 returns-2 c = town-no-first _ _ _ (c .before .before .before .if1 .left) (sym (c .before .before .read-field .ensures) ∙ c .enum-told .given .1)
@@ -27,28 +30,16 @@ returns-2 c = town-no-first _ _ _ (c .before .before .before .if1 .left) (sym (c
 returns-3 : tie.Need-returns-3
 returns-3 c =
     let first = c .before .before .before in
-    town-no-second _ _ _ (first .before .before .before .before .if1 .left) (junctions-read first) (sym (c .before .before .read-field2 .ensures) ∙ c .enum-told2 .given .1)
+    let told = sym (c .before .before .read-field2 .ensures) ∙ c .enum-told2 .given .1 in
+    town-no-second _ _ _ (first .before .before .before .before .if1 .left) (junctions-read first) told
 
 returns-4 : tie.Need-returns-4
 returns-4 c =
-    let ended = c .before .before .before in
+    let ended = c .before in
     let second = ended .before .before in
     let first = second .before .before .before .before in
-    town-in-turn _ _ _ (first .before .before .before .before .if1 .left) (junctions-read first) (intervals-read second) (ended .before .town-keeps .ensures) (sym (c .before .end .given .1) ∙ ended .numbers-end .ensures)
-
-returns-5 : tie.Need-returns-5
-returns-5 c =
-    let ended = c .before .before in
-    let second = ended .before .before in
-    let first = second .before .before .before .before in
-    town-in-turn _ _ _ (first .before .before .before .before .if1 .left) (junctions-read first) (intervals-read second) (ended .before .town-keeps .ensures) (sym (c .enum-told3 .given .1) ∙ ended .numbers-end .ensures)
-
-returns-6 : tie.Need-returns-6
-returns-6 c =
-    let ended = c .before .before in
-    let second = ended .before .before in
-    let first = second .before .before .before .before in
-    town-in-turn _ _ _ (first .before .before .before .before .if1 .left) (junctions-read first) (intervals-read second) (ended .before .town-keeps .ensures) (sym (c .enum-told4 .given .1) ∙ ended .numbers-end .ensures)
+    let turn = first .before .before .before .before .if1 .left in
+    c .of-numbers .ensures ∙ town-numbers _ _ _ turn (junctions-read first) (intervals-read second) (ended .before .town-keeps .ensures) (ended .numbers-end .ensures)
 
 pub town-line-spec : {M : Type 1} → statement M
 town-line-spec =
@@ -65,9 +56,5 @@ town-line-spec =
     returns-3
     (λ c κs. search needs)
     (λ c κs. search needs)
-    (λ c. search needs)
-    (λ c. search needs)
-    (λ c. search needs)
-    returns-4
-    returns-5
-    returns-6)
+    (λ c κs. search needs)
+    returns-4)

@@ -1,41 +1,40 @@
--- `numbers::fences_read`: at each turn what the numbers left come to, behind the flag, is what all of them come to.
+-- `numbers::fences_read`: the loop over the numbers of a line, where a fence is tested by the one before it.
 use borrow.Author.Needs.{needs}
-use Prim.Native.Nat.{_-_, _≤_}
-use mathlib.Core.Path.{_≡_, refl, sym, _∙_}
-use native.Mathlib.Omega.{arith}
+use Prim.Native.Nat.{_+_, _-_}
+use mathlib.Core.Path.{sym, _∙_}
 use Rattle.model.specs.Rules.{fencesKeep}
-use Rattle.series.specs.NumbersRead.{numbersRead}
-use Rattle.series.proofs.NumberLoops.{all-left, left-malformed, left-goes-on, none-left, fencesTest, fences-test-goes, fences-test-ends}
+use Rattle.series.proofs.NumberLoops.{Left, all-left, left-malformed, left-goes-on, left-ends, fencesLeftKeep, fence-goes, no-fence}
 use Rattle.series.proofs.numbers.fences_read.Statement.{statement}
 use Rattle.series.proofs.numbers.fences_read.Tie as tie
 
 abbrev Inv-loop : tie.InvT-loop
-Inv-loop text at count i₀ k₀ before₀ within₀ i k before within = (numbersRead (fencesTest within k before) (count - k) text i ≡ numbersRead fencesKeep count text at) × (k ≤ count)
+Inv-loop text at count i₀ k₀ before₀ within₀ i k before within = Left fencesKeep text at count within (fencesLeftKeep k before) k i
 
 abbrev μ-loop : tie.MeasureT-loop
 μ-loop text at count i₀ k₀ before₀ within₀ i k before within = count - k
 
 loop-holds : tie.Need-loop-holds Inv-loop μ-loop
-loop-holds c = (all-left _ _ _ _ _ refl, omega arith)
+loop-holds c = all-left _ _ _ _
 
 returns : tie.Need-returns Inv-loop μ-loop
 returns c =
     let turn = c .before .before .before in
-    left-malformed _ _ _ _ _ (turn .loop-test .taken) (sym (c .before .before .read-field .ensures) ∙ c .enum-told .given .1) ∙ turn .before .loop .inv .0
+    left-malformed (turn .before .loop .inv) (turn .loop-test .taken) (sym (c .before .before .read-field .ensures) ∙ c .enum-told .given .1)
 
 loop-again : tie.Need-loop-again Inv-loop μ-loop
 loop-again c =
+    let fence = c .before .before .before .value .given in
     let read = c .before .before .before .before .before in
-    let turn = read .before in (
-      left-goes-on _ _ _ _ _ (turn .loop-test .taken) _ (sym (read .read-field .ensures) ∙ c .before .before .before .value .given .1)
-          (fences-test-goes (turn .before .loop .within) (turn .before .loop .k) (turn .before .loop .before) (c .before .before .before .value .given .0 .0) (c .both .ensures) (c .before .fence-keeps .ensures)) ∙ turn .before .loop .inv .0,
-      omega arith,
-    )
+    let turn = read .before in
+    let at = turn .before .loop in
+    let goes = fence-goes (at .k) (at .before) (fence .0 .0) (c .before .fence-keeps .ensures) in
+    let left = fencesLeftKeep (at .k + 1) (fence .0 .0) in
+    left-goes-on (at .inv) (turn .loop-test .taken) (c .before .fence-keeps .result) left (sym (read .read-field .ensures) ∙ fence .1) (c .both .ensures) goes
 
 returns-2 : tie.Need-returns-2 Inv-loop μ-loop
 returns-2 c =
     let last = c .before .before .loop in
-    c .numbers-end .ensures ∙ none-left (fencesTest (last .within) (last .k) (last .before)) _ _ _ _ _ (last .inv .1) (c .before .loop-test .left) (fences-test-ends (last .within) (last .k) (last .before)) ∙ last .inv .0
+    c .numbers-end .ensures ∙ left-ends (last .inv) (c .before .loop-test .left) (no-fence (last .k) (last .before))
 
 pub fences-read-spec : {M : Type 1} → statement M
 fences-read-spec =

@@ -4,7 +4,8 @@ use borrow.Author.Needs.{needs}
 use Prim.Native.Nat.{_+_, _-_, _*_, _≤_}
 use native.Mathlib.Omega.{arith}
 use Rattle.series.specs.code.ShortSpeeds.{ShortField}
-use Rattle.series.proofs.ShortSpeeds.{reached-at, RowLeft, row-begins, row-goes-on, row-ends}
+use Rattle.series.proofs.ShortSpeeds.{reached-at, RowLeft, row-goes-on, row-ends}
+use Rattle.series.proofs.NumberLoops.{all-left}
 use Rattle.series.proofs.speeds.short_speeds.Statement.{statement}
 use Rattle.series.proofs.speeds.short_speeds.Tie as tie
 
@@ -15,7 +16,7 @@ abbrev μ-loop : tie.MeasureT-loop
 μ-loop text at count i₀ k₀ i k = count - k
 
 loop-holds : tie.Need-loop-holds Inv-loop μ-loop
-loop-holds c = (row-begins _ _ _, omega arith, omega arith)
+loop-holds c = ((λ e. all-left _ _ _ _), omega arith, omega arith)
 
 short-speed-requires : tie.Need-short-speed-requires Inv-loop μ-loop
 short-speed-requires c κs = omega arith
@@ -33,7 +34,7 @@ shared-slice-read-if3 c = omega arith
 returns-5 : tie.Need-returns-5 Inv-loop μ-loop
 returns-5 c =
     let last = c .before .before in
-    row-ends _ _ _ _ _ (last .before .loop .inv .0) (omega arith) (last .before .loop .inv .1) (last .loop-test .left) (c .if3 .left)
+    row-ends _ _ _ _ _ (last .before .loop .inv .0) (omega arith) (last .loop-test .left) (c .if3 .left)
 
 pub short-speeds-spec : {M : Type 1} → statement M
 short-speeds-spec =

@@ -98,7 +98,10 @@ module _ (text : List ℕ) (at : ℕ) (value next : ℕ) (r : FieldRead text at 
   word-behind = rw line-behind (upTo-behind space (lineFrom text (at + 1)))
 
   pub end-behind : next + length (lineFrom text next) ≡ at + length (lineFrom text at)
-  end-behind = omega (arith, ap length line-behind, length-drop (length (wordFrom text (at + 1))) (lineFrom text (at + 1)), ap length (gap-line text at (r .gap)), r .behind, upTo-length space (lineFrom text (at + 1)))
+  end-behind =
+      let from = lineFrom text (at + 1) in
+      let left = length-drop (length (wordFrom text (at + 1))) from in
+      omega (arith, ap length line-behind, left, upTo-length space from, ap length (gap-line text at (r .gap)), r .behind)
 
 -- ---- No field, and the end
 

@@ -95,22 +95,23 @@ module _ (text : List ℕ) (at : ℕ) where
       last-byte : getD (lineFrom text at) (length (lineFrom text at) - 1) 0 ≡ getD text (end - 1) 0
       last-byte = line-at text at (length (lineFrom text at) - 1) (omega (arith, long)) ∙ ap (λ k. getD text k 0) (omega (arith, line-end-is, long))
 
-      pub name-begins-with-space : getD text at 0 ≡ space → Malformed ≡ nameRest text at
+      -- What is left to ask of a name: its first and its last byte.
+      ends-decide : nameKeeps (lineFrom text at) ≡ (not (eqb (getD text at 0) space) && not (eqb (getD text (end - 1) 0) space))
       unfolding nameKeeps
-      name-begins-with-space e =
-          rw (lt-ltb 0 (length (lineFrom text at)) long, le-leb (length (lineFrom text at)) 24 (omega (arith, line-end-is)), rest-good (every printable) text at good .0, first-byte, eq-eqb (getD text at 0) space e)
+      ends-decide =
+          let room : length (lineFrom text at) ≤ 24 = omega (arith, line-end-is) in
+          let printed = rest-good (every printable) text at good .0 in
+          rw (lt-ltb 0 (length (lineFrom text at)) long, le-leb (length (lineFrom text at)) 24 room, printed, first-byte, last-byte)
+
+      pub name-begins-with-space : getD text at 0 ≡ space → Malformed ≡ nameRest text at
+      name-begins-with-space e = name-fails (ends-decide ∙ rw (eq-eqb (getD text at 0) space e))
 
       module _ (first : getD text at 0 ≡ space → ⊥) where
         pub name-ends-with-space : getD text (end - 1) 0 ≡ space → Malformed ≡ nameRest text at
-        unfolding nameKeeps
-        name-ends-with-space e =
-            rw (lt-ltb 0 (length (lineFrom text at)) long, le-leb (length (lineFrom text at)) 24 (omega (arith, line-end-is)), rest-good (every printable) text at good .0, first-byte, last-byte, ne-eqb (getD text at 0) space first, eq-eqb (getD text (end - 1) 0) space e)
+        name-ends-with-space e = name-fails (ends-decide ∙ rw (ne-eqb (getD text at 0) space first, eq-eqb (getD text (end - 1) 0) space e))
 
         pub name-is-good : (getD text (end - 1) 0 ≡ space → ⊥) → Good end ≡ nameRest text at
-        unfolding nameKeeps
-        name-is-good e =
-            rw (lt-ltb 0 (length (lineFrom text at)) long, le-leb (length (lineFrom text at)) 24 (omega (arith, line-end-is)), rest-good (every printable) text at good .0, first-byte, last-byte, ne-eqb (getD text at 0) space first, ne-eqb (getD text (end - 1) 0) space e)
-            (ap Good (sym line-end-is))
+        name-is-good e = rw (ends-decide, ne-eqb (getD text at 0) space first, ne-eqb (getD text (end - 1) 0) space e) (ap Good (sym line-end-is))
 
 -- ---- A name behind a space
 

@@ -11,7 +11,8 @@ use borrow.Author.Tests.{ne-eqb}
 use Rattle.model.specs.Rules.{Outcome, refused, replied, firstBroken, every, fencesKeep}
 use Rattle.townfile.specs.Bytes.{space, printable, upTo}
 use Rattle.townfile.specs.Numbers.{decimal, numberKeeps}
-use Rattle.townfile.specs.Lines.{markTN, markFN, markJN, markAR, markCM, markOf, markAlone, numbersOf, numbersKeep, numberField, nameField, nameKeeps, formKeeps, valuesKeep, townKeeps, junctionKeeps, arcKeeps, townRead, fencesRead, junctionRead, arcRead, lineRead}
+use Rattle.townfile.specs.Lines.{markTN, markFN, markJN, markAR, markCM, markOf, markAlone, numbersOf, numbersKeep, numberField, nameField, nameKeeps}
+use Rattle.townfile.specs.Lines.{formKeeps, valuesKeep, townKeeps, junctionKeeps, arcKeeps, townRead, fencesRead, junctionRead, arcRead, lineRead}
 use Rattle.townfile.specs.declared.progress.Progress.{Progress}
 use Rattle.fields.specs.Fields.{lineFrom, wordFrom, fieldAt, fieldsFrom, numbersFrom}
 use Rattle.reading.specs.LineSteps.{Step, step, lineStep}
@@ -40,17 +41,21 @@ numbers-asked true true true false values p end = refl
 numbers-asked true true true true false p end = refl
 numbers-asked true true true true true p end = refl
 
-comment-asked : (p : Progress) (alone all : Bool) (end : ℕ) → cond alone (ofComment p (cond all (Good end) rest.Malformed)) (refused 25) ≡ cond (not (alone && all)) (refused 25) (replied (step p end))
+comment-asked : (p : Progress) (alone all : Bool) (end : ℕ) →
+    cond alone (ofComment p (cond all (Good end) rest.Malformed)) (refused 25) ≡ cond (not (alone && all)) (refused 25) (replied (step p end))
 comment-asked p false all end = refl
 comment-asked p true false end = refl
 comment-asked p true true end = refl
 
 name-asked : (p : Progress) (junction : ℕ) (kept : Bool) (end : ℕ) →
-    withName p junction (cond kept (Good end) rest.Malformed) ≡ cond (not kept) (refused 25) (cond (not (junctionKeeps p junction)) (refused 26) (replied (step (junctionRead p junction) end)))
+    withName p junction (cond kept (Good end) rest.Malformed) ≡ asked true kept (junctionKeeps p junction) (step (junctionRead p junction) end)
 name-asked p junction false end = refl
 name-asked p junction true end = go (junctionKeeps p junction)
   where
-    go : (keeps : Bool) → cond keeps (replied (step (junctionRead p junction) end)) (refused 26) ≡ cond (not keeps) (refused 26) (replied (step (junctionRead p junction) end))
+    reply : Step
+    reply = step (junctionRead p junction) end
+
+    go : (keeps : Bool) → cond keeps (replied reply) (refused 26) ≡ cond (not keeps) (refused 26) (replied reply)
     go true = refl
     go false = refl
 
@@ -59,6 +64,16 @@ name-asked p junction true end = go (junctionKeeps p junction)
 module _ (p : Progress) (text : List ℕ) (at : ℕ) (behind : BehindMark text at) where
   abbrev whole : List ℕ
   whole = lineFrom text at
+
+  -- Its form, its number, and what it adds.
+  abbrev form : Bool
+  form = markAlone whole && (numberKeeps (numberField whole) && nameKeeps (nameField whole))
+
+  abbrev number : ℕ
+  number = decimal (numberField whole)
+
+  abbrev added : Step
+  added = step (junctionRead p number) (at + length whole)
 
   -- The number's bytes stand behind the space.
   number-is : eqb (getD (lineFrom text (at + 2)) 0 0) space ≡ true → numberField whole ≡ wordFrom text (at + 2 + 1)
@@ -71,7 +86,7 @@ module _ (p : Progress) (text : List ℕ) (at : ℕ) (behind : BehindMark text a
     number-keeps : numberKeeps (numberField whole) ≡ true
     number-keeps = ap numberKeeps (number-is (r .gap)) ∙ r .form
 
-    value-is : decimal (numberField whole) ≡ junction
+    value-is : number ≡ junction
     value-is = ap decimal (number-is (r .gap)) ∙ r .number
 
     ends-at : next + length (lineFrom text next) ≡ at + length whole
@@ -82,35 +97,37 @@ module _ (p : Progress) (text : List ℕ) (at : ℕ) (behind : BehindMark text a
 
     name-there : eqb (getD (lineFrom text next) 0 0) space ≡ true → nameField whole ≡ lineFrom text (next + 1)
     name-there gap =
-        sym (line-later text at (length (numberField whole) + 4) (omega (arith, ends-at, next-is, ap length (gap-line text next gap)))) ∙ ap (lineFrom text) next-is
+        let inside : length (numberField whole) + 4 ≤ length whole = omega (arith, ends-at, next-is, ap length (gap-line text next gap)) in
+        sym (line-later text at (length (numberField whole) + 4) inside) ∙ ap (lineFrom text) next-is
 
     name-missing : lineFrom text next ≡ [] → nameField whole ≡ []
     name-missing e =
         let past : length whole ≤ length (numberField whole) + 4 = omega (arith, ends-at, next-is, ap length e) in
         drop-of-length-le whole past
 
-    named : withName p junction (nameAt text next) ≡ cond (not (nameKeeps (nameField whole))) (refused 25) (cond (not (junctionKeeps p junction)) (refused 26) (replied (step (junctionRead p junction) (at + length whole))))
+    -- With that number, what a name and an end of the line come to.
+    abbrev with-name : Bool → ℕ → Outcome Step
+    with-name kept end = asked true kept (junctionKeeps p junction) (step (junctionRead p junction) end)
+
+    named : withName p junction (nameAt text next) ≡ with-name (nameKeeps (nameField whole)) (at + length whole)
     unfolding nameKeeps
     named = go (eqb (getD (lineFrom text next) 0 0) space) refl
       where
-        go : (gap : Bool) → eqb (getD (lineFrom text next) 0 0) space ≡ gap →
-            withName p junction (nameAt text next) ≡ cond (not (nameKeeps (nameField whole))) (refused 25) (cond (not (junctionKeeps p junction)) (refused 26) (replied (step (junctionRead p junction) (at + length whole))))
+        go : (gap : Bool) → eqb (getD (lineFrom text next) 0 0) space ≡ gap → withName p junction (nameAt text next) ≡ with-name (nameKeeps (nameField whole)) (at + length whole)
         go true gap =
-            rw (gap, name-there gap)
-            (name-asked p junction (nameKeeps (lineFrom text (next + 1))) (next + 1 + length (lineFrom text (next + 1)))
-            ∙ ap (λ end. cond (not (nameKeeps (lineFrom text (next + 1)))) (refused 25) (cond (not (junctionKeeps p junction)) (refused 26) (replied (step (junctionRead p junction) end))))
-            (omega (arith, ends-at, ap length (gap-line text next gap))))
+            let name = lineFrom text (next + 1) in
+            let end : next + 1 + length name ≡ at + length whole = omega (arith, ends-at, ap length (gap-line text next gap)) in
+            rw (gap, name-there gap) (name-asked p junction (nameKeeps name) (next + 1 + length name) ∙ ap (with-name (nameKeeps name)) end)
         go false gap = elim (no-word text next (rw (word-behind text (at + 2) junction next r))) [
           | inl empty ↦ rw (gap, name-missing empty)
           | inr space ↦ absurd (let z : _≡_ {A = ℕ} 0 1 = cc in omega arith)
         ]
 
-    read-asked : withJunction p text (field.Number junction next) ≡ cond (not (markAlone whole && (numberKeeps (numberField whole) && nameKeeps (nameField whole)))) (refused 25)
-        (cond (not (junctionKeeps p (decimal (numberField whole)))) (refused 26) (replied (step (junctionRead p (decimal (numberField whole))) (at + length whole))))
+    read-asked : withJunction p text (field.Number junction next) ≡ asked true form (junctionKeeps p number) added
     read-asked = rw (alone, number-keeps, value-is) named
 
   -- No number behind a space: the line is not of the form.
-  not-of-form : fieldAt text (at + 2) ≡ field.Malformed → (markAlone whole && (numberKeeps (numberField whole) && nameKeeps (nameField whole))) ≡ false
+  not-of-form : fieldAt text (at + 2) ≡ field.Malformed → form ≡ false
   unfolding numberKeeps upTo
   not-of-form e = go (markAlone whole) refl
     where
@@ -121,14 +138,11 @@ module _ (p : Progress) (text : List ℕ) (at : ℕ) (behind : BehindMark text a
         | inr gap ↦ rw (number-is gap, rw gap at (field-not-read text (at + 2) e))
       ]
 
-  junction-asked : (turn : Bool) → inTurnOnly turn (withJunction p text (fieldAt text (at + 2))) ≡
-      asked turn (markAlone whole && (numberKeeps (numberField whole) && nameKeeps (nameField whole))) (junctionKeeps p (decimal (numberField whole))) (step (junctionRead p (decimal (numberField whole))) (at + length whole))
+  junction-asked : (turn : Bool) → inTurnOnly turn (withJunction p text (fieldAt text (at + 2))) ≡ asked turn form (junctionKeeps p number) added
   junction-asked false = refl
   junction-asked true = go (fieldAt text (at + 2)) refl
     where
-      go : (f : Field) → fieldAt text (at + 2) ≡ f → withJunction p text f ≡
-          cond (not (markAlone whole && (numberKeeps (numberField whole) && nameKeeps (nameField whole)))) (refused 25)
-          (cond (not (junctionKeeps p (decimal (numberField whole)))) (refused 26) (replied (step (junctionRead p (decimal (numberField whole))) (at + length whole))))
+      go : (f : Field) → fieldAt text (at + 2) ≡ f → withJunction p text f ≡ asked true form (junctionKeeps p number) added
       go (field.Number junction next) e = read-asked (field-read text (at + 2) e)
       go field.Malformed e = rw (not-of-form e)
 
@@ -144,11 +158,16 @@ module _ (p : Progress) (text : List ℕ) (at : ℕ) where
 
     -- A line of numbers.
     numbers-line : (turn : Bool) (count : ℕ) (test : List ℕ → Bool) (next : List ℕ → Progress) →
-        inTurnOnly turn (ofNumbers (numbersRead test count text (at + 2)) (next (numbersFrom text (at + 2)))) ≡ asked turn (markAlone line && numbersKeep count line) (test (numbersOf line)) (step (next (numbersOf line)) (at + length line))
+        inTurnOnly turn (ofNumbers (numbersRead test count text (at + 2)) (next (numbersFrom text (at + 2)))) ≡
+        asked turn (markAlone line && numbersKeep count line) (test (numbersOf line)) (step (next (numbersOf line)) (at + length line))
     unfolding numbersRead
     numbers-line turn count test next =
+        let ended = eqb (length (wordFrom text (at + 2))) 0 in
+        let fields = fieldsFrom text (at + 2) in
+        let numbers = numbersFrom text (at + 2) in
+        let end = at + 2 + length (lineFrom text (at + 2)) in
         rw (behind .fields-are, behind .alone-is, end-is)
-        (numbers-asked turn (eqb (length (wordFrom text (at + 2))) 0) (every numberKeeps (fieldsFrom text (at + 2))) (eqb (length (fieldsFrom text (at + 2))) count) (test (numbersFrom text (at + 2))) (next (numbersFrom text (at + 2))) (at + 2 + length (lineFrom text (at + 2))))
+        (numbers-asked turn ended (every numberKeeps fields) (eqb (length fields) count) (test numbers) (next numbers) end)
 
   pub town-line-is : BehindMark text at → markOf line ≡ markTN → townStep p text (at + 2) ≡ lineStep p text at
   unfolding townStep lineStep firstBroken formKeeps valuesKeep lineRead
@@ -172,6 +191,9 @@ module _ (p : Progress) (text : List ℕ) (at : ℕ) where
   unfolding junctionStep lineStep firstBroken formKeeps valuesKeep lineRead
   junction-line-is behind mark = rw mark (junction-asked p text at behind (eqb (p .turn) 2))
 
-  pub no-line-is : (markOf line ≡ markTN → ⊥) → (markOf line ≡ markFN → ⊥) → (markOf line ≡ markJN → ⊥) → (markOf line ≡ markAR → ⊥) → (markOf line ≡ markCM → ⊥) → refused 23 ≡ lineStep p text at
+  pub no-line-is : (markOf line ≡ markTN → ⊥) → (markOf line ≡ markFN → ⊥) → (markOf line ≡ markJN → ⊥) → (markOf line ≡ markAR → ⊥) →
+      (markOf line ≡ markCM → ⊥) → refused 23 ≡ lineStep p text at
   unfolding lineStep firstBroken
-  no-line-is t f j a c = rw (ne-eqb (markOf line) markTN t, ne-eqb (markOf line) markFN f, ne-eqb (markOf line) markJN j, ne-eqb (markOf line) markAR a, ne-eqb (markOf line) markCM c)
+  no-line-is t f j a c =
+      let mark = markOf line in
+      rw (ne-eqb mark markTN t, ne-eqb mark markFN f, ne-eqb mark markJN j, ne-eqb mark markAR a, ne-eqb mark markCM c)

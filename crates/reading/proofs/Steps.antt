@@ -145,6 +145,10 @@ module _ (p : Progress) (text : List ℕ) (at : ℕ) where
 
 -- ---- A junction
 
+-- One that is kept is below the count.
+pub junction-below : (p : Progress) (junction : ℕ) → junctionKeeps p junction ≡ true → junction < p .junctions
+junction-below p junction k = ltb-true junction (p .junctions) (true-both (ltb junction (p .junctions)) (leb (p .unnamed) junction) k .0)
+
 module _ (p : Progress) (text : List ℕ) (at : ℕ) where
   module _ (turn : p .turn ≡ 2) where
     pub junction-in-turn : {number : Field} → number ≡ fieldAt text at → withJunction p text number ≡ junctionStep p text at
@@ -163,10 +167,6 @@ module _ (p : Progress) (text : List ℕ) (at : ℕ) where
         junction-named k =
             let inside : replied (step (junctionRead p junction) end) ≡ withName p junction (rest.Good end) = rw k in
             inside ∙ junction-with-name name
-
-  -- A junction that is kept is below the count.
-  pub junction-below : (junction : ℕ) → junctionKeeps p junction ≡ true → junction < p .junctions
-  junction-below junction k = ltb-true junction (p .junctions) (true-both (ltb junction (p .junctions)) (leb (p .unnamed) junction) k .0)
 
   -- ---- A comment
 

@@ -39,11 +39,16 @@ module _ (p : Progress) (text : List ℕ) (at : ℕ) where
   abbrev end : ℕ
   end = at + length (lineFrom text at)
 
-  whole-is : wholeLine p text at ≡ cond (eqb end (length text)) (refused 21) (cond (ltb 700 (length (lineFrom text at))) (refused 22) (lineStep p text at))
+  -- 21 and 22 before what the line comes to.
+  abbrev first-of : Bool → Bool → Outcome Step → Outcome Step
+  first-of unended long outcome = cond unended (refused 21) (cond long (refused 22) outcome)
+
+  whole-is : wholeLine p text at ≡ first-of (eqb end (length text)) (ltb 700 (length (lineFrom text at))) (lineStep p text at)
   unfolding wholeLine
   whole-is = go (lineStep p text at) (eqb end (length text)) refl (ltb 700 (length (lineFrom text at))) refl
     where
-      go : (o : Outcome Step) (none : Bool) → eqb end (length text) ≡ none → (long : Bool) → ltb 700 (length (lineFrom text at)) ≡ long → unlessFault text at o ≡ cond none (refused 21) (cond long (refused 22) o)
+      go : (o : Outcome Step) (none : Bool) → eqb end (length text) ≡ none → (long : Bool) → ltb 700 (length (lineFrom text at)) ≡ long →
+          unlessFault text at o ≡ first-of none long o
       go (refused fault) true e long l = rw e
       go (refused fault) false e true l = rw (e, l)
       go (refused fault) false e false l = rw (e, l)
@@ -64,19 +69,31 @@ module _ (p : Progress) (text : List ℕ) (at : ℕ) where
   unfolding wholeLine
   line-faults e f = ap refused f ∙ ap (unlessFault text at) e
 
-  -- A line that is read ends where it ends.
+  -- The rules of a line's bytes, and what they let through.
+  abbrev bytes-rules : List Rule
+  bytes-rules = drop 1 (lineRules p (lineFrom text at))
+
+  abbrev bytes-reply : Step
+  bytes-reply = step (lineRead p (lineFrom text at)) end
+
+  -- A line that is read ends where it ends, and its rules are kept.
   pub read-ends : {q : Progress} {at-end : ℕ} → replied (step q at-end) ≡ lineStep p text at → (q ≡ lineRead p (lineFrom text at)) × (at-end ≡ end)
   unfolding lineStep
   read-ends {q} {at-end} e =
-      let kept = replies-kept bytesRules reply (step q at-end) (sym e) in
-      let same : step q at-end ≡ reply = replied-same (e ∙ kept-replies bytesRules reply kept) in
+      let kept = replies-kept bytes-rules bytes-reply (step q at-end) (sym e) in
+      let same : step q at-end ≡ bytes-reply = replied-same (e ∙ kept-replies bytes-rules bytes-reply kept) in
       (ap (λ s. s .progress) same, ap (λ s. s .end) same)
-    where
-      bytesRules : List Rule
-      bytesRules = drop 1 (lineRules p (lineFrom text at))
 
-      reply : Step
-      reply = step (lineRead p (lineFrom text at)) end
+  -- The bytes answer the same whether the line's end is told or not.
+  bytes-refuse : {fault : ℕ} → refused fault ≡ lineStep p text at → firstBroken bytes-rules (lineRead p (lineFrom text at)) ≡ refused fault
+  unfolding lineStep
+  bytes-refuse {fault} e = refused-before bytes-rules [] bytes-reply (lineRead p (lineFrom text at)) fault (sym e)
+
+  bytes-reply-to : {q : Progress} {at-end : ℕ} → replied (step q at-end) ≡ lineStep p text at → firstBroken bytes-rules (lineRead p (lineFrom text at)) ≡ replied q
+  unfolding lineStep
+  bytes-reply-to {q} {at-end} e =
+      let kept = replies-kept bytes-rules bytes-reply (step q at-end) (sym e) in
+      kept-replies bytes-rules (lineRead p (lineFrom text at)) kept ∙ ap replied (sym (read-ends e .0))
 
 -- ---- The lines from here on
 
@@ -107,37 +124,33 @@ module _ (p : Progress) (number : ℕ) (text : List ℕ) (at : ℕ) (here : at <
   unfolding lineAnswer firstBroken
   answer-short l = rw (le-ltb 700 (length (lineFrom text at)) l)
 
+  -- The line's answer goes on to the lines behind it.
+  goes-on : (at + length (lineFrom text at) ≡ length text → ⊥) → {answer : Outcome Progress} → lineAnswer p (lineFrom text at) ≡ answer →
+      linesFrom p number left ≡ onward answer number (λ q. linesFrom q (suc number) behind)
+  goes-on feed e = ended (inside feed) ∙ ap (λ answer. onward answer number (λ q. linesFrom q (suc number) behind)) e
+
   pub scan-refused : {fault : ℕ} → refused fault ≡ wholeLine p text at → refusedAt fault number ≡ linesFrom p number left
-  unfolding lineStep
   scan-refused {fault} e = elim (eqb-cases (at + length (lineFrom text at)) (length text)) [
     | inl none ↦ rw (refused-same (e ∙ sym (line-without-feed p text at (none .1)))) (sym (unended (none .1)))
     | inr feed ↦ elim (ltb-cases 700 (length (lineFrom text at))) [
-      | inl long ↦
-          rw (refused-same (e ∙ sym (line-too-long p text at (feed .1) (long .1))))
-          (sym (ended (inside (feed .1)) ∙ ap (λ answer. onward answer number (λ q. linesFrom q (suc number) behind)) (answer-long (long .1))))
+      | inl long ↦ rw (refused-same (e ∙ sym (line-too-long p text at (feed .1) (long .1)))) (sym (goes-on (feed .1) (answer-long (long .1))))
       | inr short ↦
-          (let faulty : firstBroken (drop 1 (lineRules p (lineFrom text at))) (lineRead p (lineFrom text at)) ≡ refused fault =
-          refused-before (drop 1 (lineRules p (lineFrom text at))) [] (step (lineRead p (lineFrom text at)) (at + length (lineFrom text at))) (lineRead p (lineFrom text at)) fault (line-of-bytes p text at (feed .1) (short .1) ∙ sym e) in
-          sym (ended (inside (feed .1)) ∙ ap (λ answer. onward answer number (λ q. linesFrom q (suc number) behind)) (answer-short (short .1) ∙ faulty)))
+          (let faulty = bytes-refuse p text at (e ∙ sym (line-of-bytes p text at (feed .1) (short .1))) in
+          sym (goes-on (feed .1) (answer-short (short .1) ∙ faulty)))
     ]
   ]
 
   pub scan-goes-on : {q : Progress} {end : ℕ} → replied (step q end) ≡ wholeLine p text at →
       (end < length text) × (end ≡ at + length (lineFrom text at)) × (linesFrom q (number + 1) (pieces lineFeed (drop (end + 1) text)) ≡ linesFrom p number left)
-  unfolding lineStep
   scan-goes-on {q} {end} e = elim (eqb-cases (at + length (lineFrom text at)) (length text)) [
     | inl none ↦ absurd (neither (line-without-feed p text at (none .1) ∙ sym e))
     | inr feed ↦ elim (ltb-cases 700 (length (lineFrom text at))) [
       | inl long ↦ absurd (neither (line-too-long p text at (feed .1) (long .1) ∙ sym e))
       | inr short ↦
           (let read : replied (step q end) ≡ lineStep p text at = e ∙ sym (line-of-bytes p text at (feed .1) (short .1)) in
-          let parts = read-ends p text at read in
-          let kept = replies-kept (drop 1 (lineRules p (lineFrom text at))) (step (lineRead p (lineFrom text at)) (at + length (lineFrom text at))) (step q end) (sym read) in
-          let answer : lineAnswer p (lineFrom text at) ≡ replied q = answer-short (short .1) ∙ kept-replies (drop 1 (lineRules p (lineFrom text at))) (lineRead p (lineFrom text at)) kept ∙ ap replied (sym (parts .0)) in (
-            rw (parts .1) (inside (feed .1)),
-            parts .1,
-            rw (parts .1, add-one) (sym (ended (inside (feed .1)) ∙ ap (λ o. onward o number (λ r. linesFrom r (suc number) behind)) answer)),
-          ))
+          let ends = read-ends p text at read .1 in
+          let answer = answer-short (short .1) ∙ bytes-reply-to p text at read in
+          (rw ends (inside (feed .1)), ends, rw (ends, add-one number) (sym (goes-on (feed .1) answer))))
     ]
   ]
 

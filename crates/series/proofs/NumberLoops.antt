@@ -59,7 +59,8 @@ module _ {all : List ℕ → Bool} {text : List ℕ} {at count : ℕ} {within : 
     left-malformed e = rw left-is (numbers-malformed text i flagged (count - (k + 1)) e) ∙ here .same
 
     pub left-goes-on : {value next : ℕ} {within′ : Bool} (keeps : Bool) (left′ : List ℕ → Bool) →
-        fieldAt text i ≡ field.Number value next → within′ ≡ (within && keeps) → ((numbers : List ℕ) → left (value ∷ numbers) ≡ (keeps && left′ numbers)) → Left all text at count within′ left′ (k + 1) next
+        fieldAt text i ≡ field.Number value next → within′ ≡ (within && keeps) →
+        ((numbers : List ℕ) → left (value ∷ numbers) ≡ (keeps && left′ numbers)) → Left all text at count within′ left′ (k + 1) next
     left-goes-on {value} {next} {within′} keeps left′ e flag goes =
         let rest = numbersFrom text next in
         let test : (within′ && left′ rest) ≡ flagged (value ∷ rest) = rw (flag, goes rest) (flag-goes-on within keeps (left′ rest)) in

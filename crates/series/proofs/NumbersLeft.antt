@@ -19,7 +19,10 @@ pub numbers-go-on : (text : List ℕ) (at value next : ℕ) → FieldRead text a
     numbersRead test (suc count) text at ≡ numbersRead (λ numbers. test (value ∷ numbers)) count text next
 unfolding numbersRead every
 numbers-go-on text at value next r test count =
-    rw (word-gone text at value next r, field-goes text at value next r, r .form, r .number, word-behind text at value next r, ← end-behind text at value next r, eqb·suc-suc (length (fieldsFrom text next)) count)
+    let gone = word-gone text at value next r in
+    let fields = field-goes text at value next r in
+    let behind = word-behind text at value next r in
+    rw (gone, fields, r .form, r .number, behind, ← end-behind text at value next r, eqb·suc-suc (length (fieldsFrom text next)) count)
 
 module _ (text : List ℕ) (at : ℕ) where
   unfilled-malformed : (test : List ℕ → Bool) (count : ℕ) → filledBy count text at ≡ false → Malformed ≡ numbersRead test count text at
@@ -49,11 +52,16 @@ unfolding numbersRead
 numbers-same test test′ count text at e = rw e
 
 -- A further test.
-pub within-both : (fits : Bool) (test : List ℕ → Bool) (count : ℕ) (text : List ℕ) (at : ℕ) → withinIf (numbersRead test count text at) fits ≡ numbersRead (λ numbers. fits && test numbers) count text at
+pub within-both : (fits : Bool) (test : List ℕ → Bool) (count : ℕ) (text : List ℕ) (at : ℕ) →
+    withinIf (numbersRead test count text at) fits ≡ numbersRead (λ numbers. fits && test numbers) count text at
 unfolding numbersRead
 within-both fits test count text at = go (filledBy count text at) (test (numbersFrom text at)) fits
   where
-    go : (filled kept fits : Bool) → withinIf (cond filled (cond kept (Within (at + length (lineFrom text at))) Outside) Malformed) fits ≡ cond filled (cond (fits && kept) (Within (at + length (lineFrom text at))) Outside) Malformed
+    end : ℕ
+    end = at + length (lineFrom text at)
+
+    go : (filled kept fits : Bool) →
+        withinIf (cond filled (cond kept (Within end) Outside) Malformed) fits ≡ cond filled (cond (fits && kept) (Within end) Outside) Malformed
     go false kept fits = refl
     go true true true = refl
     go true true false = refl

@@ -9,8 +9,11 @@ use Rattle.fields.proofs.Rests.{name-not-printable, name-empty, name-to
 use Rattle.fields.proofs.field.name_rest.Statement.{statement}
 use Rattle.fields.proofs.field.name_rest.Tie as tie
 
+abbrev start : tie.After-known-told → tie.Start
+start c = c .before .before .before .before .before
+
 -- the line's rest can be printed
-good : (c : tie.After-known-told) → printableRest (now (c .before .before .before .before .before .args .text)) (c .before .before .before .before .before .args .at) ≡ Good (c .before .end .given .0 .0)
+good : (c : tie.After-known-told) → printableRest (now (start c .args .text)) (start c .args .at) ≡ Good (c .before .end .given .0 .0)
 good c = sym (c .before .before .before .printable .ensures) ∙ c .before .end .given .1
 
 returns : tie.Need-returns

@@ -23,9 +23,11 @@ returns-4 c =
 returns-5 : tie.Need-returns-5
 returns-5 c =
     let then5 = c .before in
-    let else3 = then5 .before .before .before .before in
+    let match = then5 .before .before in
+    let else3 = match .before .before in
     let else2 = else3 .before in
-    c .further-digits .ensures ∙ first-digit _ _ (else2 .before .before .if1 .left) (else2 .if2 .left) (else3 .if3 .left) (then5 .before .before .match .rest .1) (then5 .before .if4 .left) (then5 .if5 .taken)
+    let digits = first-digit _ _ (else2 .before .before .if1 .left) (else2 .if2 .left) (else3 .if3 .left) in
+    c .further-digits .ensures ∙ digits (match .match .rest .1) (then5 .before .if4 .left) (then5 .if5 .taken)
 
 returns-6 : tie.Need-returns-6
 returns-6 c =

@@ -1,9 +1,12 @@
 -- `line::junction_line`: its turn, then its number, then its name; the number's limits come last.
 use borrow.Author.Needs.{needs}
+use Prim.Native.Nat.{ℕ}
 use mathlib.Core.Path.{_≡_, sym, _∙_}
+use mathlib.Core.Bool.{true}
 use native.Mathlib.Omega.{arith}
 use borrow.Author.Tests.{ne-eqb, not-true, not-false}
 use denote.Ref.{now}
+use Rattle.townfile.specs.Lines.{junctionKeeps}
 use Rattle.fields.specs.Fields.{fieldAt}
 use Rattle.fields.specs.Fields.{nameAt}
 use Rattle.fields.specs.declared.field.Field.the-variants.{Number}
@@ -16,10 +19,18 @@ use Rattle.reading.proofs.line.junction_line.Tie as tie
 abbrev start : tie.After-known-told → tie.Start
 start c = c .before .before .before .before .before .before .before
 
-number-read : (c : tie.After-known-told) → Number (c .before .junction .given .0 .0) (c .before .junction .given .0 .1 .0) ≡ fieldAt (now (start c .args .text)) (start c .args .at)
+-- its number, and where its name stands
+abbrev junction : tie.After-known-told → ℕ
+junction c = c .before .junction .given .0 .0
+
+abbrev next : tie.After-known-told → ℕ
+next c = c .before .junction .given .0 .1 .0
+
+number-read : (c : tie.After-known-told) → Number (junction c) (next c) ≡ fieldAt (now (start c .args .text)) (start c .args .at)
 number-read c = sym (c .before .junction .given .1) ∙ c .before .before .before .read-field .ensures
 
-name-read : (c : tie.After-known-told2) → Good (c .before .end .given .0 .0) ≡ nameAt (now (start (c .before .before .before .before) .args .text)) (c .before .before .before .before .before .junction .given .0 .1 .0)
+name-read : (c : tie.After-known-told2) → let number = c .before .before .before .before in
+    Good (c .before .end .given .0 .0) ≡ nameAt (now (start number .args .text)) (next number)
 name-read c = sym (c .before .end .given .1) ∙ c .before .before .before .name-at .ensures
 
 returns : tie.Need-returns
@@ -32,24 +43,30 @@ returns-2 c = junction-in-turn _ _ _ (c .before .before .before .if1 .left) (sym
 returns-3 : tie.Need-returns-3
 returns-3 c =
     let number = c .before .before .before in
-    junction-with-name _ _ _ (number .before .before .before .before .if1 .left) (number-read number) (sym (c .enum-told2 .given .1) ∙ c .before .before .name-at .ensures)
+    let told = sym (c .enum-told2 .given .1) ∙ c .before .before .name-at .ensures in
+    junction-with-name _ _ _ (number .before .before .before .before .if1 .left) (number-read number) told
 
 returns-4 : tie.Need-returns-4
 returns-4 c =
     let name = c .before .before in
     let number = name .before .before .before .before in
-    junction-outside _ _ _ (number .before .before .before .before .if1 .left) (number-read number) (name-read name) (sym (c .before .junction-keeps .ensures) ∙ not-true _ (c .if2 .taken))
+    let outside = sym (c .before .junction-keeps .ensures) ∙ not-true _ (c .if2 .taken) in
+    junction-outside _ _ _ (number .before .before .before .before .if1 .left) (number-read number) (name-read name) outside
+
+kept : (c : tie.Else2) → let number = c .before .before .before .before .before .before in junctionKeeps (start number .args .progress) (junction number) ≡ true
+kept c = sym (c .before .junction-keeps .ensures) ∙ not-false _ (c .if2 .left)
 
 add-t15 : tie.Need-add-t15
 add-t15 c =
     let number = c .before .before .before .before .before .before in
-    record { fits = omega (arith, junction-below (start number .args .progress) (now (start number .args .text)) (start number .args .at) _ (sym (c .before .junction-keeps .ensures) ∙ not-false _ (c .if2 .left)), number .before .before .before .before .before .struct-known .given) }
+    let below = junction-below (start number .args .progress) _ (kept c) in
+    record { fits = omega (arith, below, number .before .before .before .before .before .struct-known .given) }
 
 returns-5 : tie.Need-returns-5
 returns-5 c =
     let name = c .before .before in
     let number = name .before .before .before .before in
-    junction-named _ _ _ (number .before .before .before .before .if1 .left) (number-read number) (name-read name) (sym (c .before .junction-keeps .ensures) ∙ not-false _ (c .if2 .left))
+    junction-named _ _ _ (number .before .before .before .before .if1 .left) (number-read number) (name-read name) (kept c)
 
 pub junction-line-spec : {M : Type 1} → statement M
 junction-line-spec =

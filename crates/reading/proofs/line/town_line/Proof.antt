@@ -1,5 +1,6 @@
 -- `line::town_line`: its turn, then its two fields.
 use borrow.Author.Needs.{needs}
+use Prim.Native.Nat.{ℕ}
 use mathlib.Core.Path.{_≡_, sym, _∙_}
 use borrow.Author.Tests.{ne-eqb}
 use denote.Ref.{now}
@@ -13,11 +14,15 @@ use Rattle.reading.proofs.line.town_line.Tie as tie
 abbrev start : tie.After-known-told → tie.Start
 start c = c .before .before .before .before .before .before .before
 
-junctions-read : (c : tie.After-known-told) → fieldAt (now (start c .args .text)) (start c .args .at) ≡ Number (c .before .junctions .given .0 .0) (c .before .junctions .given .0 .1 .0)
+-- where the second field stands
+abbrev second : tie.After-known-told → ℕ
+second c = c .before .junctions .given .0 .1 .0
+
+junctions-read : (c : tie.After-known-told) → fieldAt (now (start c .args .text)) (start c .args .at) ≡ Number (c .before .junctions .given .0 .0) (second c)
 junctions-read c = sym (c .before .before .before .read-field .ensures) ∙ c .before .junctions .given .1
 
-intervals-read : (c : tie.After-known-told2) →
-    fieldAt (now (start (c .before .before .before .before) .args .text)) (c .before .before .before .before .before .junctions .given .0 .1 .0) ≡ Number (c .before .intervals .given .0 .0) (c .before .intervals .given .0 .1 .0)
+intervals-read : (c : tie.After-known-told2) → let first = c .before .before .before .before in
+    fieldAt (now (start first .args .text)) (second first) ≡ Number (c .before .intervals .given .0 .0) (c .before .intervals .given .0 .1 .0)
 intervals-read c = sym (c .before .before .before .read-field2 .ensures) ∙ c .before .intervals .given .1
 
 returns : tie.Need-returns
@@ -36,10 +41,10 @@ returns-3 c =
 returns-4 : tie.Need-returns-4
 returns-4 c =
     let ended = c .before in
-    let second = ended .before .before in
-    let first = second .before .before .before .before in
+    let both = ended .before .before in
+    let first = both .before .before .before .before in
     let turn = first .before .before .before .before .if1 .left in
-    c .of-numbers .ensures ∙ town-numbers _ _ _ turn (junctions-read first) (intervals-read second) (ended .before .town-keeps .ensures) (ended .numbers-end .ensures)
+    c .of-numbers .ensures ∙ town-numbers _ _ _ turn (junctions-read first) (intervals-read both) (ended .before .town-keeps .ensures) (ended .numbers-end .ensures)
 
 pub town-line-spec : {M : Type 1} → statement M
 town-line-spec =

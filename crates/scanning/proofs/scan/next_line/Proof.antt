@@ -15,7 +15,9 @@ use Rattle.scanning.proofs.scan.next_line.Tie as tie
 abbrev start : tie.After-known-told → tie.Start
 start c = c .before .before .before .before .before
 
-read : (c : tie.After-known-told) → replied (step (c .before .progress .given .0 .0) (c .before .progress .given .0 .1 .0)) ≡ lineStep (start c .args .progress) (now (start c .args .text)) (start c .args .at)
+-- the line's bytes are read
+read : (c : tie.After-known-told) → let told = c .before .progress .given .0 in
+    replied (step (told .0) (told .1 .0)) ≡ lineStep (start c .args .progress) (now (start c .args .text)) (start c .args .at)
 read c = ap outcomeOf (sym (c .before .progress .given .1)) ∙ c .before .before .before .read-line .ensures
 
 ends : (c : tie.After-known-told) → c .before .progress .given .0 .1 .0 ≡ start c .args .at + length (lineFrom (now (start c .args .text)) (start c .args .at))

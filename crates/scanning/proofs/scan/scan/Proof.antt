@@ -8,7 +8,8 @@ use borrow.Author.Tests.{lt-ltb, le-ltb}
 use denote.Ref.{now}
 use lib.ListN.{length, drop}
 use Rattle.townfile.specs.Bytes.{lineFeed, pieces}
-use Rattle.townfile.specs.FirstFault.{atEnd, linesFrom, firstFault}
+use Rattle.townfile.specs.FirstFault.{Reading, atEnd, linesFrom, firstFault}
+use Rattle.townfile.specs.declared.progress.Progress.{Progress}
 use Rattle.reading.specs.LineSteps.{outcomeOf}
 use Rattle.fields.specs.Fields.{lineFrom}
 use Rattle.scanning.proofs.Scanning.{text-too-long, scan-starts, scan-refused, scan-goes-on, scan-ends}
@@ -30,11 +31,15 @@ loop-holds c = (scan-starts _ (c .if1 .left), (omega arith, omega arith))
 abbrev text : tie.At-loop Inv-loop μ-loop → List ℕ
 text c = now (c .before .before .before .args .text)
 
+-- what the lines from a place on come to, behind some progress and lines
+abbrev from : List ℕ → Progress → ℕ → ℕ → Reading Progress
+from bytes progress line at = linesFrom progress line (pieces lineFeed (drop at bytes))
+
 -- a line is read: it ends inside the text, and the lines behind it decide
-read : (c : tie.After-known-told Inv-loop μ-loop) → let turn = c .before .before .before .before .before in
-    (c .before .next .given .0 .1 .0 < length (text turn))
-    × (c .before .next .given .0 .1 .0 ≡ turn .loop .at + length (lineFrom (text turn) (turn .loop .at)))
-    × (linesFrom (c .before .next .given .0 .0) (turn .loop .line + 1) (pieces lineFeed (drop (c .before .next .given .0 .1 .0 + 1) (text turn))) ≡ linesFrom (turn .loop .progress) (turn .loop .line) (pieces lineFeed (drop (turn .loop .at) (text turn))))
+read : (c : tie.After-known-told Inv-loop μ-loop) → let turn = c .before .before .before .before .before in let told = c .before .next .given .0 in
+    (told .1 .0 < length (text turn))
+    × (told .1 .0 ≡ turn .loop .at + length (lineFrom (text turn) (turn .loop .at)))
+    × (from (text turn) (told .0) (turn .loop .line + 1) (told .1 .0 + 1) ≡ from (text turn) (turn .loop .progress) (turn .loop .line) (turn .loop .at))
 read c = scan-goes-on _ _ _ _ (c .before .before .before .before .loop-test .taken) (ap outcomeOf (sym (c .before .next .given .1)) ∙ c .before .before .before .next-line .ensures)
 
 add-at : tie.Need-add-at Inv-loop μ-loop
@@ -50,7 +55,10 @@ loop-again : tie.Need-loop-again Inv-loop μ-loop
 loop-again c = (read c .2 ∙ c .before .before .before .before .before .loop .inv .0, (omega (arith, read c .0), omega (arith, read c .1)))
 
 returns-2 : tie.Need-returns-2 Inv-loop μ-loop
-returns-2 c = let turn = c .before .before .before .before in scan-refused _ _ _ _ (turn .loop-test .taken) (ap outcomeOf (sym (c .before .refusal .given .1)) ∙ c .before .before .before .next-line .ensures) ∙ turn .before .loop .inv .0
+returns-2 c =
+    let turn = c .before .before .before .before in
+    let fault = ap outcomeOf (sym (c .before .refusal .given .1)) ∙ c .before .before .before .next-line .ensures in
+    scan-refused _ _ _ _ (turn .loop-test .taken) fault ∙ turn .before .loop .inv .0
 
 ended : (c : tie.After-loop Inv-loop μ-loop) → firstFault (text (c .before)) ≡ atEnd (c .before .loop .progress) (c .before .loop .line)
 ended c = sym (c .before .loop .inv .0) ∙ scan-ends _ _ _ _ (c .loop-test .left)

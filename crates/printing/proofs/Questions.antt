@@ -10,7 +10,6 @@ use lib.ListN.{length, getD, take, replicate}
 use borrow.Author.Tests.{eq-eqb, ne-eqb, eqb-true}
 use Rattle.model.specs.Rules.{written}
 use Rattle.model.proofs.Rules.{true-both, both-true}
-use Rattle.fields.proofs.FieldsLeft.{and-false}
 use Rattle.townfile.specs.Grammar.{Bytes}
 use Rattle.asking.specs.Line.{numbersIn, ofForm, restOf, LineAndRest}
 use Rattle.asking.proofs.Asked.{NumbersAsked}
@@ -39,7 +38,7 @@ module _ (input : List ℕ) where
   module _ {count next : ℕ} (line : NumbersAsked markQU input count next) where
     pub other-count : (count ≡ 2 → ⊥) → Malformed ≡ questionIn input
     unfolding asks
-    other-count e = not-asked (rw (ne-eqb (length (numbersIn input)) 2 (λ two. e (sym (line .counted) ∙ two))) (and-false (ofForm markQU input)))
+    other-count e = not-asked (rw (line .form, ne-eqb (length (numbersIn input)) 2 (λ two. e (sym (line .counted) ∙ two))))
 
     module _ (two : count ≡ 2) {table : List ℕ} (copied : table ≡ written (take 2 (numbersIn input)) (replicate 2 0)) where
       pub asked : Asked (getD table 0 0) (getD table 1 0) next ≡ questionIn input

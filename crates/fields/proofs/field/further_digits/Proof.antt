@@ -28,7 +28,7 @@ returns-2 : tie.Need-returns-2 Inv-loop μ-loop
 returns-2 c =
     let digit = c .before in
     let turn = digit .before .before .before .before in
-    number-too-long _ _ _ (turn .loop-test .taken) (digit .before .if1 .left) (digit .if2 .taken) (c .if3 .taken) ∙ turn .before .loop .inv .0
+    number-too-long _ _ _ (turn .loop-test .taken) (digit .before .if1 .left) (digit .if2 .taken) (omega (arith, c .if3 .taken)) ∙ turn .before .loop .inv .0
 
 mul-value : tie.Need-mul-value Inv-loop μ-loop
 mul-value c = record { fits = omega arith }

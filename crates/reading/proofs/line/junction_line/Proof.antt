@@ -35,23 +35,27 @@ name-read c = sym (c .before .end .given .1) ∙ c .before .before .before .name
 
 returns : tie.Need-returns
 unfolding junctionStep
-returns c = rw (ne-eqb _ 2 (c .if1 .taken))
+returns c = rw (ne-eqb (c .before .before .before .args .progress .turn) 2 (λ e. omega (arith, c .if1 .taken)))
+
+-- the turn of a JN
+turn-is : (c : tie.Else1) → c .before .before .before .args .progress .turn ≡ 2
+turn-is c = omega (arith, c .if1 .left)
 
 returns-2 : tie.Need-returns-2
-returns-2 c = junction-in-turn _ _ _ (c .before .before .before .if1 .left) (sym (c .enum-told .given .1) ∙ c .before .before .read-field .ensures)
+returns-2 c = junction-in-turn _ _ _ (turn-is (c .before .before .before)) (sym (c .enum-told .given .1) ∙ c .before .before .read-field .ensures)
 
 returns-3 : tie.Need-returns-3
 returns-3 c =
     let number = c .before .before .before in
     let told = sym (c .enum-told2 .given .1) ∙ c .before .before .name-at .ensures in
-    junction-with-name _ _ _ (number .before .before .before .before .if1 .left) (number-read number) told
+    junction-with-name _ _ _ (turn-is (number .before .before .before .before)) (number-read number) told
 
 returns-4 : tie.Need-returns-4
 returns-4 c =
     let name = c .before .before in
     let number = name .before .before .before .before in
     let outside = sym (c .before .junction-keeps .ensures) ∙ not-true _ (c .if2 .taken) in
-    junction-outside _ _ _ (number .before .before .before .before .if1 .left) (number-read number) (name-read name) outside
+    junction-outside _ _ _ (turn-is (number .before .before .before .before)) (number-read number) (name-read name) outside
 
 kept : (c : tie.Else2) → let number = c .before .before .before .before .before .before in junctionKeeps (start number .args .progress) (junction number) ≡ true
 kept c = sym (c .before .junction-keeps .ensures) ∙ not-false _ (c .if2 .left)
@@ -66,7 +70,7 @@ returns-5 : tie.Need-returns-5
 returns-5 c =
     let name = c .before .before in
     let number = name .before .before .before .before in
-    junction-named _ _ _ (number .before .before .before .before .if1 .left) (number-read number) (name-read name) (kept c)
+    junction-named _ _ _ (turn-is (number .before .before .before .before)) (number-read number) (name-read name) (kept c)
 
 pub junction-line-spec : {M : Type 1} → statement M
 junction-line-spec =

@@ -4,7 +4,7 @@ use mathlib.Core.Path.{_≡_, refl, sym, _∙_}
 use mathlib.Core.Bool.{Bool, true, false, _&&_, and-true}
 use mathlib.Core.List.{List, [], _∷_}
 use native.Mathlib.Numerals.{add-one}
-use mathlib.Core.Logic.{⊎-elim}
+use mathlib.Core.Logic.{inl, inr}
 use lib.Dec.{leb}
 use lib.ListN.{length, getD, drop, drop-of-length-le}
 use lib.Seq.{drop-cons}
@@ -29,11 +29,13 @@ module _ (test : ℕ → Bool) (xs : List ℕ) (i : ℕ) (so-far : every test (d
 
 -- A scan that keeps the highest entry so far: it and the entries that are left are within a limit where all are.
 max-within : (a b limit : ℕ) (rest : Bool) → (leb (max a b) limit && rest) ≡ (leb a limit && (leb b limit && rest))
-max-within a b limit rest =
-    ⊎-elim
-    (λ u. ⊎-elim (λ v. rw (u .0, v .0, le-leb (max a b) limit (omega (arith, u .1, v .1)))) (λ v. rw (u .0, v .0, lt-leb (max a b) limit (omega (arith, v .1)))) (leb-cases b limit))
-    (λ u. rw (u .0, lt-leb (max a b) limit (omega (arith, u .1))))
-    (leb-cases a limit)
+max-within a b limit rest = elim (leb-cases a limit) [
+  | inl within ↦ elim (leb-cases b limit) [
+    | inl within′ ↦ rw (within .0, within′ .0, le-leb (max a b) limit (omega (arith, within .1, within′ .1)))
+    | inr above ↦ rw (within .0, above .0, lt-leb (max a b) limit (omega (arith, above .1)))
+  ]
+  | inr above ↦ rw (above .0, lt-leb (max a b) limit (omega (arith, above .1)))
+]
 
 module _ (limit : ℕ) (xs : List ℕ) (highest i : ℕ) (so-far : (leb highest limit && every (λ x. leb x limit) (drop i xs)) ≡ every (λ x. leb x limit) xs) where
   pub highest-goes-on : i < length xs → (leb (max highest (getD xs i 0)) limit && every (λ x. leb x limit) (drop (i + 1) xs)) ≡ every (λ x. leb x limit) xs

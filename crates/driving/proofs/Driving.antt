@@ -46,7 +46,8 @@ module _ {departure interval metres : ℕ} {fences speeds : List ℕ} where
   kept-inside kept =
       omega (arith, kept .in-interval, kept .as-many, passed-before fences departure (length fences) 0 (λ h. absurd (omega arith)))
 
-  pub driving-starts : interval < min (length fences) (length speeds) → Fits w32 departure → Fits w32 metres → Driving departure interval metres fences speeds interval departure (36 * metres)
+  pub driving-starts : interval < min (length fences) (length speeds) → Fits w32 departure → Fits w32 metres →
+      Driving departure interval metres fences speeds interval departure (36 * metres)
   driving-starts inside wide long = record {
     from-first = le-refl interval;
     inside = inside;
@@ -101,7 +102,8 @@ module _ {departure interval metres : ℕ} {fences speeds : List ℕ} where
           let at-last : end ≡ last = end-is ∙ List·getD-eq-default fences last done in
           sym (never-from-last v (left - room) (omega arith)) ∙ (rw at-last at (later h))
 
-    pub drives-on : room < left → k + 1 < min (length fences) (length speeds) → Fits w32 end → Driving departure interval metres fences speeds (k + 1) end (left - room)
+    pub drives-on : room < left → k + 1 < min (length fences) (length speeds) → Fits w32 end →
+        Driving departure interval metres fences speeds (k + 1) end (left - room)
     drives-on h more wide = record {
       from-first = omega (arith, d .from-first);
       inside = more;

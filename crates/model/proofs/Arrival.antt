@@ -10,13 +10,17 @@ use Rattle.model.specs.Flow.{covered, firstTick, arrival, IsArrival, Arr
 use Rattle.model.proofs.Tests.{leb-cases}
 use Rattle.model.proofs.Covered.{covered-earlier}
 
+-- What holds before n and at n holds before the next.
+one-more : {P : ℕ → Type 0} (n : ℕ) → ((m : ℕ) → m < n → P m) → P n → (m : ℕ) → m < suc n → P m
+one-more n before here m h = ⊎-elim (λ q. let same : m ≡ n = omega arith in rw same here) (λ l. before m (omega arith)) (eq-or-lt-of-le h)
+
 first-is : (v : ℕ → ℕ) (spans s n k : ℕ) → n + k ≡ suc last - s → ((m : ℕ) → m < n → covered v s m < spans) → IsArrival v spans s (firstTick v spans s n k)
 unfolding firstTick
 first-is v spans s n zero e before = IsArrival.none (λ m h. before m (omega arith))
 first-is v spans s n (suc k) e before =
     ⊎-elim
     (λ w. rw (w .0) (IsArrival.attained n (omega arith) (w .1) before))
-    (λ w. rw (w .0) (first-is v spans s (suc n) k (omega arith) (λ m h. ⊎-elim (λ q. let same : m ≡ n = omega arith in rw same (w .1)) (λ l. before m (omega arith)) (eq-or-lt-of-le h))))
+    (λ w. rw (w .0) (first-is v spans s (suc n) k (omega arith) (one-more n before (w .1))))
     (leb-cases spans (covered v s n))
 
 pub arrival-is : (v : ℕ → ℕ) (spans s : ℕ) → IsArrival v spans s (arrival v spans s)

@@ -28,7 +28,8 @@ module _ (v : ℕ → ℕ) (at end speed left : ℕ) (piece : Piece v at end spe
   stop : 0 < left → left ≤ (end - at) * speed → IsArrival v left at (at + ticksFor left speed)
   stop some enough =
       let moving : 0 < speed = ⊎-elim (λ z. absurd (omega (arith, mul-zero (end - at), ap (λ (n : ℕ). (end - at) * n) z))) (λ p. p) (eq-zero-or-pos speed) in
-      let here : ticksFor left speed ≤ end - at = ⊎-elim (λ w. w .1) (λ w. absurd (omega (arith, ticks-least left speed (end - at) moving (w .1)))) (leb-cases (ticksFor left speed) (end - at)) in
+      let in-piece : end - at < ticksFor left speed → ⊥ = λ late. omega (arith, ticks-least left speed (end - at) moving late) in
+      let here : ticksFor left speed ≤ end - at = ⊎-elim (λ w. w .1) (λ w. absurd (in-piece (w .1))) (leb-cases (ticksFor left speed) (end - at)) in
       IsArrival.attained (ticksFor left speed) (omega (arith, piece .forward, piece .in-time))
       (omega (arith, at-steady (ticksFor left speed) here, ticks-enough left speed moving))
       (λ m h. omega (arith, at-steady m (omega arith), ticks-least left speed m moving h))

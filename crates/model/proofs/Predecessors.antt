@@ -141,13 +141,17 @@ module _ (N : Net) (source : ℕ) (labels : List ℕ) where
 
 module _ (N : Net) (sound : Sound N) (source departure : ℕ) (departs : departure ≤ last) (labels : List ℕ)
     (earliest : Earliest N source departure (λ j. getD labels j never)) where
+  -- What an arc offers its head: the arrival of who leaves its tail at the label.
+  abbrev offered : ℕ → ℕ
+  offered a = N .drive a (getD labels (N .tail a) never)
+
   -- No arc would lower a label: who arrives on it has walked.
-  earliest-no-lower : (a : ℕ) → a < N .arcs → getD labels (N .head a) never ≤ N .drive a (getD labels (N .tail a) never)
+  earliest-no-lower : (a : ℕ) → a < N .arcs → getD labels (N .head a) never ≤ offered a
   earliest-no-lower a is-arc = go (sound .driven a (getD labels (N .tail a) never) is-arc)
     where
-      go : (N .drive a (getD labels (N .tail a) never) ≤ last) ⊎ (N .drive a (getD labels (N .tail a) never) ≡ never) → getD labels (N .head a) never ≤ N .drive a (getD labels (N .tail a) never)
+      go : (offered a ≤ last) ⊎ (offered a ≡ never) → getD labels (N .head a) never ≤ offered a
       go (inl arrives) =
-          let left : getD labels (N .tail a) never < N .drive a (getD labels (N .tail a) never) = left-before sound a (getD labels (N .tail a) never) is-arc arrives in
+          let left : getD labels (N .tail a) never < offered a = left-before sound a (getD labels (N .tail a) never) is-arc arrives in
           earliest .no-sooner _ _ (along a is-arc (earliest .attained (N .tail a) (sound .tail-below a is-arc) λ none. omega arith) arrives)
       go (inr none) = omega (arith, earliest-at-most-never departs earliest (N .head a) (sound .head-below a is-arc))
 
@@ -155,7 +159,7 @@ module _ (N : Net) (sound : Sound N) (source departure : ℕ) (departs : departu
   last-arc : {j t : ℕ} → Arrives N source departure j t → (j ≡ source → ⊥) → t ≡ getD labels j never → (a : ℕ) × Attains N labels j a
   last-arc start other e = absurd (other refl)
   last-arc (along a {t = t} is-arc w arrives) other e =
-      let no-later : N .drive a (getD labels (N .tail a) never) ≤ N .drive a t = sound .monotone a _ t is-arc (earliest .no-sooner _ t w) in
+      let no-later : offered a ≤ N .drive a t = sound .monotone a _ t is-arc (earliest .no-sooner _ t w) in
       (a, record { is-arc = is-arc; into = refl; arrives = omega (arith, earliest-no-lower a is-arc); reached = omega arith })
 
   earliest-arc : (j : ℕ) → j < N .junctions → (j ≡ source → ⊥) → (getD labels j never ≡ never → ⊥) → (a : ℕ) × Attains N labels j a

@@ -20,7 +20,8 @@ unfolding firstBroken
 kept-replies [] reply kept = refl
 kept-replies (rule ∷ rules) reply kept = rw (kept .0) (kept-replies rules reply (kept .1))
 
-not-refused : {Reply : Type 0} (broken : Bool) (number : ℕ) (rest : Outcome Reply) (reply : Reply) → cond broken (refused number) rest ≡ replied reply → (broken ≡ false) × (rest ≡ replied reply)
+not-refused : {Reply : Type 0} (broken : Bool) (number : ℕ) (rest : Outcome Reply) (reply : Reply) →
+    cond broken (refused number) rest ≡ replied reply → (broken ≡ false) × (rest ≡ replied reply)
 not-refused true number rest reply e = absurd (let z : _≡_ {A = ℕ} 0 1 = cc in omega arith)
 not-refused false number rest reply e = (refl, e)
 

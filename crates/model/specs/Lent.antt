@@ -9,5 +9,6 @@ abbrev pub networkIn : ℕ → RefT (List ℕ) → RefT (List ℕ) → RefT (Lis
 networkIn junctions fences tails heads lengths speeds = network junctions (fences .now) (tails .now) (heads .now) (lengths .now) (speeds .now)
 
 -- For what a function ensures, where a table's name stands for the table at entry and at exit.
-abbrev pub lentNetwork : {A B C D E : Type 0} → ℕ → Both (RefT (List ℕ)) A → Both (RefT (List ℕ)) B → Both (RefT (List ℕ)) C → Both (RefT (List ℕ)) D → Both (RefT (List ℕ)) E → Network
+abbrev pub lentNetwork : {A B C D E : Type 0} → ℕ →
+    Both (RefT (List ℕ)) A → Both (RefT (List ℕ)) B → Both (RefT (List ℕ)) C → Both (RefT (List ℕ)) D → Both (RefT (List ℕ)) E → Network
 lentNetwork junctions fences tails heads lengths speeds = networkIn junctions (fences .entry) (tails .entry) (heads .entry) (lengths .entry) (speeds .entry)

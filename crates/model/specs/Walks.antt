@@ -29,7 +29,8 @@ pub data Arrives (N : Net) (source departure : ℕ) : ℕ → ℕ → Type 0 whe
 -- The same, where the vehicle may wait at each junction before it goes on.
 pub data ArrivesWaiting (N : Net) (source departure : ℕ) : ℕ → ℕ → Type 0 where
   start : ArrivesWaiting N source departure source departure
-  along : (a : ℕ) {t : ℕ} (u : ℕ) → a < N .arcs → ArrivesWaiting N source departure (N .tail a) t → t ≤ u → N .drive a u ≤ last → ArrivesWaiting N source departure (N .head a) (N .drive a u)
+  along : (a : ℕ) {t : ℕ} (u : ℕ) → a < N .arcs → ArrivesWaiting N source departure (N .tail a) t → t ≤ u → N .drive a u ≤ last →
+      ArrivesWaiting N source departure (N .head a) (N .drive a u)
 
 -- "A junction's label is the least arrival over all walks from the source": of every junction of the net, and all walks. Any
 -- label other than never is attained.

@@ -61,8 +61,8 @@ comments-dropped (added-comment comment few commented) (reads-line {says = says}
     rw silent (comments-dropped commented all)
 
 -- A text of other lines that say the same describes the same town.
-same-town : {lines lines′ : List (List ℕ)} {T : Town} → Each Unbroken lines → ((say : List Line) → ReadsAll lines say → SayAs lines′ (withoutComments say)) → length (joined lines′) ≤ 65536 →
-    Describes (joined lines) T → Describes (joined lines′) T
+same-town : {lines lines′ : List (List ℕ)} {T : Town} → Each Unbroken lines → ((say : List Line) → ReadsAll lines say → SayAs lines′ (withoutComments say)) →
+    length (joined lines′) ≤ 65536 → Describes (joined lines) T → Describes (joined lines′) T
 same-town {lines} {lines′} unbroken told short described =
     let own = joined-once (described .lines) lines (all-unbroken (described .each-reads)) unbroken (sym (described .in-lines)) in
     let others = told (described .say) (rw own at (described .each-reads)) in

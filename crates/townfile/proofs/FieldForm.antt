@@ -14,6 +14,7 @@ use Rattle.model.proofs.Rules.{true-both, both-true}
 use Rattle.model.proofs.Tests.{eqb-cases}
 use Rattle.townfile.specs.Bytes.{lineFeed, space, upTo, onFirst, pieces}
 use Rattle.townfile.specs.Numbers.{decimal, numberKeeps}
+use Rattle.townfile.specs.Lines.{fieldsOf, numbersOf}
 use Rattle.townfile.specs.Grammar.{Fields, no-fields, field}
 use Rattle.townfile.proofs.Lacks.{Lacks, cons-lacks, append-lacks}
 use Rattle.townfile.proofs.NumberForm.{keeps-number, number-keeps, number-lacks}
@@ -36,7 +37,8 @@ module _ (separator : ℕ) where
   upTo-part (byte ∷ bytes) rest lacks ends = rw (ne-eqb byte separator (lacks 0 (omega arith)), upTo-part bytes rest (λ i h e. lacks (suc i) (omega arith) e) ends)
 
   -- What stands before the first separator and behind it, where something does.
-  pub upTo-behind : (bytes : List ℕ) → 0 < length (drop (suc (length (upTo separator bytes))) bytes) → upTo separator bytes ++ (separator ∷ drop (suc (length (upTo separator bytes))) bytes) ≡ bytes
+  pub upTo-behind : (bytes : List ℕ) → 0 < length (drop (suc (length (upTo separator bytes))) bytes) →
+      upTo separator bytes ++ (separator ∷ drop (suc (length (upTo separator bytes))) bytes) ≡ bytes
   unfolding upTo
   upTo-behind [] some = absurd (omega arith)
   upTo-behind (byte ∷ bytes) some = elim (eqb-cases byte separator) [
@@ -64,14 +66,14 @@ module _ (separator : ℕ) where
 
 -- ---- Fields as pieces
 
-fields-at-space : (bytes : List ℕ) → (every numberKeeps (drop 1 (pieces space bytes)) ≡ true → Fields (drop (length (upTo space bytes)) bytes) (map decimal (drop 1 (pieces space bytes)))) →
+fields-at-space : (bytes : List ℕ) → (every numberKeeps (fieldsOf bytes) ≡ true → Fields (drop (length (upTo space bytes)) bytes) (numbersOf bytes)) →
     every numberKeeps (pieces space bytes) ≡ true → Fields (space ∷ bytes) (map decimal (pieces space bytes))
 unfolding every
 fields-at-space bytes later e =
-    let parts = true-both (numberKeeps (upTo space bytes)) (every numberKeeps (drop 1 (pieces space bytes))) (rw (pieces-first space bytes) at e) in
+    let parts = true-both (numberKeeps (upTo space bytes)) (every numberKeeps (fieldsOf bytes)) (rw (pieces-first space bytes) at e) in
     rw (pieces-first space bytes) (rw (upTo-whole space bytes) at (field (keeps-number (upTo space bytes) (parts .0)) (later (parts .1))))
 
-fields-from : (bytes : List ℕ) → every numberKeeps (drop 1 (pieces space bytes)) ≡ true → Fields (drop (length (upTo space bytes)) bytes) (map decimal (drop 1 (pieces space bytes)))
+fields-from : (bytes : List ℕ) → every numberKeeps (fieldsOf bytes) ≡ true → Fields (drop (length (upTo space bytes)) bytes) (numbersOf bytes)
 unfolding upTo pieces
 fields-from [] e = no-fields
 fields-from (byte ∷ bytes) e = elim (eqb-cases byte space) [
@@ -81,13 +83,13 @@ fields-from (byte ∷ bytes) e = elim (eqb-cases byte space) [
       rw (later, other .0) (fields-from bytes (rw later at e))
 ]
 
-pub pieces-fields : (bytes : List ℕ) → upTo space bytes ≡ [] → every numberKeeps (drop 1 (pieces space bytes)) ≡ true → Fields bytes (map decimal (drop 1 (pieces space bytes)))
+pub pieces-fields : (bytes : List ℕ) → upTo space bytes ≡ [] → every numberKeeps (fieldsOf bytes) ≡ true → Fields bytes (numbersOf bytes)
 pieces-fields bytes none e = rw none at (fields-from bytes e)
 
 pub record AsPieces (bytes numbers : List ℕ) : Type 0 where
   pub none-before : upTo space bytes ≡ []
-  pub all-numbers : every numberKeeps (drop 1 (pieces space bytes)) ≡ true
-  pub their-values : map decimal (drop 1 (pieces space bytes)) ≡ numbers
+  pub all-numbers : every numberKeeps (fieldsOf bytes) ≡ true
+  pub their-values : numbersOf bytes ≡ numbers
 
 pub fields-pieces : {bytes numbers : List ℕ} → Fields bytes numbers → AsPieces bytes numbers
 unfolding upTo pieces every
@@ -95,7 +97,11 @@ fields-pieces no-fields = record { none-before = refl; all-numbers = refl; their
 fields-pieces (field {bytes} {rest} number fields) =
     let later = fields-pieces fields in
     let parted = pieces-part space bytes rest (number-lacks number space (omega arith)) (later .none-before) in
-    record { none-before = refl; all-numbers = rw parted (both-true (number-keeps number) (later .all-numbers)); their-values = rw parted (rw (number .value, later .their-values)) }
+    record {
+      none-before = refl;
+      all-numbers = rw parted (both-true (number-keeps number) (later .all-numbers));
+      their-values = rw parted (rw (number .value, later .their-values));
+    }
 
 pub fields-lack : {bytes numbers : List ℕ} → Fields bytes numbers → Lacks lineFeed bytes
 fields-lack no-fields = λ i h e. omega arith

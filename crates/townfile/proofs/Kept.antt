@@ -137,11 +137,12 @@ pub kept-parts : {T : Town} → TownKept T → PartsKept T
 kept-parts {T} kept =
     let tests = accepted-kept (networkOf T) (kept .network-accepted) in
     let arcs = tests .1 .1 .1 .1 .1 in
+    let parted = arcs-parted (T .junctions) (length (T .fences)) (T .arcs) (not-false _ (arcs .0)) (not-false _ (arcs .1 .0)) (not-false _ (arcs .1 .1 .0)) in
     record {
       junctions-keep = not-false (junctionsKeep (T .junctions)) (tests .0);
       count-keeps = not-false (countKeeps (T .fences)) (tests .1 .0);
       fences-keep = not-false (fencesKeep (T .fences)) (tests .1 .1 .1 .1 .0);
       names-kept = rising-names (T .junctions) 0 (T .names) (λ h. omega arith) (kept .names-rise) (kept .names-below);
-      arcs-kept = arcs-parted (T .junctions) (length (T .fences)) (T .arcs) (not-false _ (arcs .0)) (not-false _ (arcs .1 .0)) (not-false _ (arcs .1 .1 .0)) (kept .speeds-per-interval);
+      arcs-kept = parted (kept .speeds-per-interval);
       arcs-few = rw (length-map (T .arcs) (λ a. a .tail)) at (kept .network-accepted .arcs-fit);
     }

@@ -14,7 +14,7 @@ use Rattle.model.specs.Rules.{every}
 use Rattle.model.proofs.Rules.{true-both, both-true}
 use Rattle.townfile.specs.Bytes.{lineFeed, space, printable, upTo, pieces}
 use Rattle.townfile.specs.Numbers.{decimal, numberKeeps}
-use Rattle.townfile.specs.Grammar.{Fields, Number, Name, Printable, Line, TN, JN, AR, CM, Reads, town-line, fences-line, junction-line, arc-line, bare-comment, comment-line}
+use Rattle.townfile.specs.Grammar.{Bytes, Fields, Number, Name, Printable, Line, TN, JN, AR, CM, Reads, town-line, fences-line, junction-line, arc-line, bare-comment, comment-line}
 use Rattle.townfile.specs.Lines.{markOf, known, markAlone, fieldsOf, numbersOf, numbersKeep, numberField, nameField, nameKeeps, formKeeps}
 use Rattle.townfile.specs.LineFaults.{CountsMatch}
 use Rattle.townfile.specs.Tables.{namedOf}
@@ -125,7 +125,7 @@ marked-reads p (comment-bytes bytes) e =
     let parts = true-both (markAlone (67 ∷ 77 ∷ bytes)) (every printable bytes) e in
     comment-reads bytes (alone-none 67 77 bytes refl refl (parts .0)) (keeps-printable bytes (parts .1))
 
-pub form-reads : (p : Progress) (line : List ℕ) → ((i : ℕ) → i < length line → getD line i 0 < 256) → known (markOf line) ≡ true → formKeeps p line ≡ true → Reads line (saysOf line)
+pub form-reads : (p : Progress) (line : List ℕ) → Bytes line → known (markOf line) ≡ true → formKeeps p line ≡ true → Reads line (saysOf line)
 form-reads p line below mark e = marked-reads p (marked-line line below mark) e
 
 pub form-counts : (p : Progress) (line : List ℕ) → known (markOf line) ≡ true → formKeeps p line ≡ true → CountsMatch p (saysOf line)

@@ -5,8 +5,8 @@ use mathlib.Core.Bool.{true, false}
 use mathlib.Core.List.{List, [], _∷_}
 use mathlib.Core.Logic.{inl, inr}
 use native.Mathlib.Omega.{arith}
-use lib.ListN.{length, getD}
 use Rattle.model.proofs.Tests.{eqb-cases}
+use Rattle.townfile.specs.Grammar.{Bytes}
 use Rattle.townfile.specs.Lines.{markTN, markFN, markJN, markAR, markCM, markOf, known}
 
 pub data Known (mark : ℕ) : Type 0 where
@@ -56,7 +56,7 @@ mark-bytes a b bytes below mark = go mark
     go (arc-mark e) = rw (same 65 82 (omega arith) e) (arc-bytes bytes)
     go (comment-mark e) = rw (same 67 77 (omega arith) e) (comment-bytes bytes)
 
-pub marked-line : (line : List ℕ) → ((i : ℕ) → i < length line → getD line i 0 < 256) → known (markOf line) ≡ true → MarkedLine line
+pub marked-line : (line : List ℕ) → Bytes line → known (markOf line) ≡ true → MarkedLine line
 unfolding markOf
 marked-line [] below e = absurd (let unknown : false ≡ true = e in let z : _≡_ {A = ℕ} 0 1 = cc in omega arith)
 marked-line (a ∷ []) below e = absurd (let unknown : false ≡ true = e in let z : _≡_ {A = ℕ} 0 1 = cc in omega arith)

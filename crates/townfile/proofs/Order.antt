@@ -173,7 +173,8 @@ accepted-legal p q number (line ∷ lines) bytes e = go (lineAnswer p line) refl
         let said = line-said p q′ line (bytes .0) a in
         (reads-line (said .short) (said .reads) (rest .0), (said .allowed, rw (said .after) at (rest .1)))
 
-pub legal-accepted : (p : Progress) (number : ℕ) {lines : List (List ℕ)} {say : List Line} → ReadsAll lines say → Legal p say → linesFrom p number (lines ++ ([] ∷ [])) ≡ accepted (afterAll p say)
+pub legal-accepted : (p : Progress) (number : ℕ) {lines : List (List ℕ)} {say : List Line} → ReadsAll lines say → Legal p say →
+    linesFrom p number (lines ++ ([] ∷ [])) ≡ accepted (afterAll p say)
 unfolding linesFrom Legal afterAll
 legal-accepted p number no-lines legal = rw (le-ltb (p .turn) 2 legal)
 legal-accepted p number (reads-line {bytes = line} {says = says} {lines = lines} short reads all) legal =

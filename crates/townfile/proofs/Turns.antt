@@ -131,7 +131,14 @@ unfolding Legal withoutComments
 fences-left p [] turn few legal = absurd (omega arith)
 fences-left p (TN junctions intervals ∷ say) turn few legal = absurd (omega (arith, same-turn p 1 0 turn (legal .0 .in-turn)))
 fences-left p (FN fences ∷ say) turn few legal =
-    record { fences = fences; rest = withoutComments say; order = refl; count = legal .0 .counts-match; keep = legal .0 .keeps; left = names-left (fencesRead p) say refl few (legal .1) }
+    record {
+      fences = fences;
+      rest = withoutComments say;
+      order = refl;
+      count = legal .0 .counts-match;
+      keep = legal .0 .keeps;
+      left = names-left (fencesRead p) say refl few (legal .1);
+    }
 fences-left p (JN named ∷ say) turn few legal = absurd (omega (arith, same-turn p 1 2 turn (legal .0 .in-turn)))
 fences-left p (AR arc ∷ say) turn few legal = absurd (omega (arith, leb-true 2 (p .turn) (legal .0 .in-turn)))
 fences-left p (CM ∷ say) turn few legal = fences-left p say turn few (legal .1)
@@ -192,11 +199,12 @@ names-legal p (name ∷ names) arcs turn named kept few = (
 pub town-legal : (T : Town) → PartsKept T → Legal start (inOrder T)
 unfolding Legal
 town-legal T parts =
-    let count = true-both (ltb 0 (length (T .fences))) (leb (length (T .fences)) maxIntervals) (parts .count-keeps) in (
+    let count = true-both (ltb 0 (length (T .fences))) (leb (length (T .fences)) maxIntervals) (parts .count-keeps) in
+    let read = fencesRead (townRead start (T .junctions ∷ length (T .fences) ∷ [])) in (
       record { in-turn = refl; counts-match = tt; keeps = both-true (both-true (parts .junctions-keep) (count .0)) (count .1) },
       (
         record { in-turn = refl; counts-match = refl; keeps = parts .fences-keep },
-        names-legal (fencesRead (townRead start (T .junctions ∷ length (T .fences) ∷ []))) (T .names) (T .arcs) refl (parts .names-kept) (parts .arcs-kept) (omega (arith, parts .arcs-few)),
+        names-legal read (T .names) (T .arcs) refl (parts .names-kept) (parts .arcs-kept) (omega (arith, parts .arcs-few)),
       ),
     )
 

@@ -3,7 +3,7 @@ use Prim.Native.Nat.{ℕ, suc, _≤_, _<_}
 use mathlib.Core.Path.{_≡_}
 use mathlib.Core.List.{List, [], _∷_, _++_, map, flatten}
 use lib.ListN.{length, getD}
-use Rattle.model.specs.Network.{Network, network, Accepted}
+use Rattle.model.specs.Network.{Network, Accepted}
 use Rattle.townfile.specs.Bytes.{lineFeed, space}
 use Rattle.townfile.specs.Numbers.{decimal}
 
@@ -59,7 +59,14 @@ pub record Town : Type 0 where
 
 -- The town's network: a table for each of the arcs' fields, and "the speeds arc by arc".
 abbrev pub networkOf : Town → Network
-networkOf T = network (T .junctions) (T .fences) (map (λ a. a .tail) (T .arcs)) (map (λ a. a .head) (T .arcs)) (map (λ a. a .metres) (T .arcs)) (flatten (map (λ a. a .speeds) (T .arcs)))
+networkOf T = record {
+  junctions = T .junctions;
+  fences = T .fences;
+  tails = map (λ a. a .tail) (T .arcs);
+  heads = map (λ a. a .head) (T .arcs);
+  lengths = map (λ a. a .metres) (T .arcs);
+  speeds = flatten (map (λ a. a .speeds) (T .arcs));
+}
 
 abbrev pub numbersOfNames : List Named → List ℕ
 numbersOfNames names = map (λ n. n .number) names
@@ -99,7 +106,8 @@ pub data Reads : List ℕ → Line → Type 0 where
 -- "A line has at most 700 bytes before its LF."
 pub data ReadsAll : List (List ℕ) → List Line → Type 0 where
   no-lines : ReadsAll [] []
-  reads-line : {bytes : List ℕ} {says : Line} {lines : List (List ℕ)} {say : List Line} → length bytes ≤ 700 → Reads bytes says → ReadsAll lines say → ReadsAll (bytes ∷ lines) (says ∷ say)
+  reads-line : {bytes : List ℕ} {says : Line} {lines : List (List ℕ)} {say : List Line} →
+      length bytes ≤ 700 → Reads bytes says → ReadsAll lines say → ReadsAll (bytes ∷ lines) (says ∷ say)
 
 -- "In lines that each end in byte 10 (LF)."
 unfoldable pub joined : List (List ℕ) → List ℕ
@@ -136,5 +144,6 @@ pub record Describes (text : List ℕ) (T : Town) : Type 0 where
 -- The second list of lines is the first with comments added anywhere. No line has a line feed inside.
 pub data Commented : List (List ℕ) → List (List ℕ) → Type 0 where
   nothing-added : Commented [] []
-  kept-line : {line : List ℕ} {lines more : List (List ℕ)} → ((i : ℕ) → i < length line → getD line i 0 ≡ lineFeed → ⊥) → Commented lines more → Commented (line ∷ lines) (line ∷ more)
+  kept-line : {line : List ℕ} {lines more : List (List ℕ)} →
+      ((i : ℕ) → i < length line → getD line i 0 ≡ lineFeed → ⊥) → Commented lines more → Commented (line ∷ lines) (line ∷ more)
   added-comment : {comment : List ℕ} {lines more : List (List ℕ)} → Reads comment CM → length comment ≤ 700 → Commented lines more → Commented lines (comment ∷ more)

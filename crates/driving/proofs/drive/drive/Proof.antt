@@ -26,7 +26,8 @@ mul-left c = omega (arith, c .before .before .before .before .fits .metres)
 
 loop-holds : tie.Need-loop-holds Inv-loop μ-loop
 loop-holds c =
-    driving-starts (omega (arith, c .if1 .left, c .before .intervals-of .ensures)) (c .before .before .before .before .fits .departure) (c .before .before .before .before .fits .metres)
+    let fits = c .before .before .before .before .fits in
+    driving-starts (omega (arith, c .if1 .left, c .before .intervals-of .ensures)) (fits .departure) (fits .metres)
 
 shared-slice-read-speed : tie.Need-shared-slice-read-speed Inv-loop μ-loop
 shared-slice-read-speed c = omega (arith, c .before .loop .inv .inside, c .before .loop .inv .from-first)
@@ -59,21 +60,27 @@ loop-less c =
 loop-again : tie.Need-loop-again Inv-loop μ-loop
 loop-again c =
     let turn = c .before .before .before .before .before in
-    drives-on (turn .loop .inv) (c .before .before .before .interval-end .ensures) (c .before .before .covered-until .ensures) (c .before .if2 .left)
+    let end-is = c .before .before .before .interval-end .ensures in
+    let room-is = c .before .before .covered-until .ensures in
+    drives-on (turn .loop .inv) end-is room-is (c .before .if2 .left)
     (omega (arith, turn .loop .inv .inside, turn .before .before .intervals-of .ensures, c .if3 .left))
     (record { fits = c .before .before .before .interval-end .ok })
 
 returns-2 : tie.Need-returns-2 Inv-loop μ-loop
 returns-2 c kept =
     let turn = c .before .before .before .before .before .before in
-    let whole = covered-here (turn .loop .inv) (c .before .before .before .before .interval-end .ensures) (c .before .before .before .covered-until .ensures) kept (c .before .before .if2 .taken) in
+    let end-is = c .before .before .before .before .interval-end .ensures in
+    let room-is = c .before .before .before .covered-until .ensures in
+    let whole = covered-here (turn .loop .inv) end-is room-is kept (c .before .before .if2 .taken) in
     c .arrival-at .ensures ∙ ap tick? (ap (λ n. turn .loop .at + n) (c .before .ticks-for .ensures) ∙ whole)
 
 returns-3 : tie.Need-returns-3 Inv-loop μ-loop
 returns-3 c kept =
     let turn = c .before .before .before .before .before in
+    let end-is = c .before .before .before .interval-end .ensures in
+    let room-is = c .before .before .covered-until .ensures in
     ap tick?
-    (never-arrives (turn .loop .inv) (c .before .before .before .interval-end .ensures) (c .before .before .covered-until .ensures) kept (c .before .if2 .left)
+    (never-arrives (turn .loop .inv) end-is room-is kept (c .before .if2 .left)
     (omega (arith, kept .as-many, turn .before .before .intervals-of .ensures, c .if3 .taken)))
 
 pub drive-spec : {M : Type 1} → statement M

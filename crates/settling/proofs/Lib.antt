@@ -1,5 +1,5 @@
 pub mod Filled
-pub mod Fitting
+pub mod Labelable
 pub mod Linking
 pub mod Links
 pub mod Offered

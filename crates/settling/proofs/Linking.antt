@@ -42,7 +42,11 @@ first-least (t ∷ tails) tail a zero h e = rw (eq-eqb t tail e) (omega arith)
 first-least (t ∷ tails) tail a (suc i) h e =
     ⊎-elim (λ w. rw (w .0) (omega arith)) (λ w. rw (w .0) (omega (arith, first-least tails tail (suc a) i (omega arith) e))) (eqb-cases t tail)
 
-pub arc-from : (tails : List ℕ) (tail a : ℕ) → a ≤ length tails → (arcFrom tails tail a ≡ noArc) ⊎ ((arcFrom tails tail a < length tails) × (getD tails (arcFrom tails tail a) 0 ≡ tail) × (a ≤ arcFrom tails tail a))
+-- An arc with this tail, from a on.
+abbrev HasTail : List ℕ → ℕ → ℕ → ℕ → Type 0
+HasTail tails tail a arc = (arc < length tails) × (getD tails arc 0 ≡ tail) × (a ≤ arc)
+
+pub arc-from : (tails : List ℕ) (tail a : ℕ) → a ≤ length tails → (arcFrom tails tail a ≡ noArc) ⊎ HasTail tails tail a (arcFrom tails tail a)
 arc-from tails tail a inside =
     ⊎-elim inl
     (λ f. inr (

@@ -1,9 +1,11 @@
--- What an arc's offer does to the tables, by how the arrival that it reckons stands to the head's label, and what stays.
+-- What an arc's offer does to the tables, by how its arrival stands to the head's label, and what stays.
 use Prim.Native.Nat.{ℕ, _≤_, _<_}
-use mathlib.Core.Path.{_≡_, refl, sym, ap, _∙_}
+use mathlib.Core.Path.{_≡_, refl, ap, _∙_}
 use mathlib.Core.Bool.{Bool, true, false, _&&_, cond}
 use mathlib.Core.List.{List}
-use mathlib.Core.Logic.{_⊎_, ⊎-elim}
+use mathlib.Core.Logic.{_⊎_, ⊎-elim, by-cases}
+use mathlib.Core.Option.{none, some}
+use native.Mathlib.Decide.{decLt}
 use native.Mathlib.Omega.{arith}
 use lib.Dec.{ltb, eqb}
 use lib.ListN.{length, getD, set, length-set}
@@ -11,11 +13,19 @@ use borrow.Author.Tests.{le-leb, lt-leb, lt-ltb, le-ltb, eq-eqb, ne-eqb}
 use Rattle.model.specs.Ticks.{last, never, tick?}
 use Rattle.model.proofs.Tests.{ltb-cases}
 use Rattle.tournament.specs.Tournament.{Tournament, Entered, keyOf}
-use Rattle.settling.specs.code.Offering.{Tables, tables, labelOf, Leaves}
+use Rattle.settling.specs.code.Offering.{Tables, tables, Leaves, ArcOffered, missed, offered}
 
--- An arrival that is by the last tick or never is its own label.
-pub label-of-tick : (t : ℕ) → (t ≤ last) ⊎ (t ≡ never) → labelOf (tick? t) ≡ t
-label-of-tick t = ⊎-elim (λ h. rw (le-leb t last h)) (λ e. rw (lt-leb t last (omega arith)) (sym e))
+-- ---- What the engine answers
+
+pub arrives-at : (t x : ℕ) → some t ≡ tick? x → (t ≡ x) × (x ≤ last)
+arrives-at t x e =
+    by-cases (decLt last x)
+    (λ late. let z : _≡_ {A = ℕ} 0 1 = cc (rw (lt-leb x last late) at e) in absurd (omega arith))
+    (λ in-time. (cc (rw (le-leb x last (omega arith)) at e), omega arith))
+
+pub arrives-never : (x : ℕ) → (x ≤ last) ⊎ (x ≡ never) → none ≡ tick? x → x ≡ never
+arrives-never x in-time e =
+    ⊎-elim (λ h. let z : _≡_ {A = ℕ} 0 1 = cc (rw (le-leb x last h) at e) in absurd (omega arith)) (λ same. same) in-time
 
 -- ---- What is left
 
@@ -32,7 +42,7 @@ module _ (before : Tables) (a head r : ℕ) where
 
   -- where the label is not lowered, the predecessor alone can change
   leaves-labels : getD (before .labels) head 0 ≤ r → (lower : Bool) →
-      (ltb r never && eqb r (getD (before .labels) head 0) && ltb a (getD (before .predecessors) head 0)) ≡ lower →
+      (eqb r (getD (before .labels) head 0) && ltb a (getD (before .predecessors) head 0)) ≡ lower →
       Leaves a head r before (tables (before .labels) (cond lower (set (before .predecessors) head a) (before .predecessors)) (before .tree))
   leaves-labels h lower e =
       let no-lower = le-ltb r (getD (before .labels) head 0) h in
@@ -42,21 +52,16 @@ module _ (before : Tables) (a head r : ℕ) where
         rekeyed = record { entered = λ l. absurd (omega arith); kept = λ _. refl };
       }
 
-  pub leaves-unreached : getD (before .labels) head 0 ≤ r → r ≡ never → Leaves a head r before before
-  leaves-unreached h e = leaves-labels h false (rw (le-ltb r never (omega arith)))
-
-  module _ (h : getD (before .labels) head 0 ≤ r) (reached : r < never) where
+  module _ (h : getD (before .labels) head 0 ≤ r) where
     pub leaves-tie : r ≡ getD (before .labels) head 0 → a < getD (before .predecessors) head 0 →
         Leaves a head r before (tables (before .labels) (set (before .predecessors) head a) (before .tree))
-    leaves-tie e lower =
-        leaves-labels h true (rw (lt-ltb r never reached, eq-eqb r (getD (before .labels) head 0) e, lt-ltb a (getD (before .predecessors) head 0) lower))
+    leaves-tie e lower = leaves-labels h true (rw (eq-eqb r (getD (before .labels) head 0) e, lt-ltb a (getD (before .predecessors) head 0) lower))
 
     pub leaves-tie-kept : r ≡ getD (before .labels) head 0 → getD (before .predecessors) head 0 ≤ a → Leaves a head r before before
-    leaves-tie-kept e kept =
-        leaves-labels h false (rw (lt-ltb r never reached, eq-eqb r (getD (before .labels) head 0) e, le-ltb a (getD (before .predecessors) head 0) kept))
+    leaves-tie-kept e kept = leaves-labels h false (rw (eq-eqb r (getD (before .labels) head 0) e, le-ltb a (getD (before .predecessors) head 0) kept))
 
     pub leaves-later : (r ≡ getD (before .labels) head 0 → ⊥) → Leaves a head r before before
-    leaves-later e = leaves-labels h false (rw (lt-ltb r never reached, ne-eqb r (getD (before .labels) head 0) e))
+    leaves-later e = leaves-labels h false (rw (ne-eqb r (getD (before .labels) head 0) e))
 
 -- ---- What stays
 
@@ -71,7 +76,7 @@ module _ {a head t : ℕ} {before after : Tables} (l : Leaves a head t before af
   pub predecessors-stay-long : length (after .predecessors) ≡ length (before .predecessors)
   predecessors-stay-long =
       let old = before .predecessors in
-      let ties = ltb t never && eqb t (getD (before .labels) head 0) && ltb a (getD old head 0) in
+      let ties = eqb t (getD (before .labels) head 0) && ltb a (getD old head 0) in
       let kept : length (cond ties (set old head a) old) ≡ length old = set-or-not ties old head a old refl in
       ap length (l .predecessors-are) ∙ set-or-not (ltb t (getD (before .labels) head 0)) old head a (cond ties (set old head a) old) kept
 
@@ -81,3 +86,16 @@ module _ {a head t : ℕ} {before after : Tables} (l : Leaves a head t before af
       (λ w. l .rekeyed .entered (w .1) .tournament)
       (λ w. rw (l .rekeyed .kept (w .1)) played)
       (ltb-cases t (getD (before .labels) head 0))
+
+module _ {fences lengths speeds : List ℕ} {a head tick interval : ℕ} where
+  pub labels-stay : {t u : Tables} → ArcOffered fences lengths speeds a head tick interval t u → length (u .labels) ≡ length (t .labels)
+  labels-stay (missed on) = refl
+  labels-stay (offered on leaves) = labels-stay-long leaves
+
+  pub predecessors-stay : {t u : Tables} → ArcOffered fences lengths speeds a head tick interval t u → length (u .predecessors) ≡ length (t .predecessors)
+  predecessors-stay (missed on) = refl
+  predecessors-stay (offered on leaves) = predecessors-stay-long leaves
+
+  pub tournament-stays : {t u : Tables} → ArcOffered fences lengths speeds a head tick interval t u → Tournament (t .tree) → Tournament (u .tree)
+  tournament-stays (missed on) played = played
+  tournament-stays (offered on leaves) played = stays-tournament leaves played

@@ -1,21 +1,19 @@
 -- The labelling's loop. Whatever the tables, between two rounds the arcs are linked and the tables stand; where the question is taken,
 -- the settled junctions' arcs have offered too (`Between`). A round keeps this.
-use Prim.Native.Nat.{ℕ, suc, _+_, _≤_, _<_}
-use mathlib.Core.Path.{_≡_, sym, _∙_}
-use mathlib.Core.Bool.{Bool, true, false}
+use Prim.Native.Nat.{ℕ, suc, _+_, _-_, _≤_, _<_}
+use mathlib.Core.Path.{_≡_, _∙_}
+use mathlib.Core.Bool.{Bool}
 use mathlib.Core.List.{List}
 use native.Mathlib.Omega.{arith}
-use lib.ListN.{length, getD, set, drop, replicate}
-use Rattle.model.specs.Ticks.{never}
+use lib.ListN.{getD, drop}
 use Rattle.model.specs.Intervals.{passed}
 use Rattle.model.specs.Network.{Network}
-use Rattle.model.specs.Labels.{noArc}
 use Rattle.model.proofs.Passed.{passed-drop}
 use Rattle.checking.specs.Question.{Taken}
-use Rattle.tournament.specs.Tournament.{Entered, keyOf}
-use Rattle.settling.specs.code.Fitting.{TablesFit}
+use Rattle.fitting.specs.Fitting.{TablesFit}
 use Rattle.settling.specs.code.Linked.{Linked}
-use Rattle.settling.specs.code.Offering.{Tables, tables, Drivable, AllOffered}
+use Rattle.settling.specs.code.Offering.{Tables, Drivable}
+use Rattle.settling.specs.code.Rounds.{Settles}
 use Rattle.settling.proofs.Queue.{Waits, Nearest, ByLast}
 use Rattle.settling.proofs.Standing.{Standing, stands-settles, stands-offered}
 use Rattle.settling.proofs.Turns.{Round, labels-by-last, still-reached, first-of, next-later, turn-starts, turn-through, turn-ends}
@@ -54,23 +52,22 @@ module _ {N : Network} (fit : TablesFit N) where
     reached-now : Taken N source departure → reached + passed (drop reached (N .fences)) tick ≡ passed (N .fences) tick
     reached-now q = omega (arith, passed-drop reached (N .fences) tick (still-reached q (b .round q) waits))
 
-    pub between-goes-on : {tree : List ℕ} {u : Tables} {reached′ interval : ℕ} → Entered (t .tree) junction never tree →
-        reached′ ≡ reached + passed (drop reached (N .fences)) tick → suc interval ≡ reached′ →
-        AllOffered (N .fences) (N .heads) (N .lengths) (N .speeds) next (set settled junction true) tick interval (getD first junction 0)
-        (tables (t .labels) (t .predecessors) tree) u →
-        Between N source departure first next (set settled junction true) reached′ u
-    between-goes-on {reached′} entered passes before offered = record {
+    pub between-goes-on : {settled′ : List Bool} {u : Tables} {passes : ℕ} →
+        Settles junction reached passes (N .fences) (N .heads) (N .lengths) (N .speeds) first next settled settled′ t u →
+        Between N source departure first next settled′ passes u
+    between-goes-on {passes} s = rw (s .settled-is) (record {
       linked = b .linked;
-      some-reached = omega (arith, b .some-reached);
+      some-reached = omega (arith, b .some-reached, s .passes-is);
       standing = stands-offered
           (λ a h. fit .head-below a (omega (arith, fit .heads-long)))
           (λ a h more. omega (arith, next-later N (b .linked) a (omega (arith, fit .heads-long)) more .1, fit .heads-long))
-          offered
+          (s .offered)
           (λ some. omega (arith, first-of N (b .linked) inside some .0, fit .heads-long))
-          (stands-settles (b .standing) inside entered);
+          (stands-settles (b .standing) inside (s .out));
       round = λ q.
-          let now-passed : reached′ ≡ passed (N .fences) tick = passes ∙ reached-now q in
+          let now-passed : passes ≡ passed (N .fences) tick = s .passes-is ∙ reached-now q in
+          let in-interval : suc (passes - 1) ≡ passed (N .fences) tick = omega (arith, b .some-reached, s .passes-is) in
           let starts =
-          turn-starts q (b .round q) (b .standing .settled-long) waits (nearest (labels-by-last q (b .round q))) (b .linked) (before ∙ now-passed) in
-          turn-ends q (turn-through q (b .linked) offered (first-of N (b .linked) inside) starts) (omega arith);
-    }
+          turn-starts q (b .round q) (b .standing .settled-long) waits (nearest (labels-by-last q (b .round q))) (b .linked) in-interval in
+          turn-ends q (turn-through q (b .linked) (s .offered) (first-of N (b .linked) inside) starts) (omega arith);
+    })

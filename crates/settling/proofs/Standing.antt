@@ -15,7 +15,7 @@ use Rattle.model.proofs.Entries.{getD-inside, getD-all}
 use Rattle.model.proofs.Tests.{ltb-cases}
 use Rattle.checking.proofs.Flags.{true-not-false}
 use Rattle.tournament.specs.Tournament.{Entered, keyOf}
-use Rattle.settling.specs.code.Offering.{Tables, tables, Leaves, AllOffered, none-left, skips, offers}
+use Rattle.settling.specs.code.Offering.{Tables, tables, Leaves, AllOffered, none-left, skips, offers, missed, offered}
 use Rattle.settling.proofs.Offered.{labels-stay-long, predecessors-stay-long}
 use Rattle.settling.proofs.Queue.{Queued, queued-starts, queued-settles, queued-lowers, queued-offered}
 
@@ -111,5 +111,6 @@ module _ {fences heads lengths speeds next : List ℕ} {settled : List Bool} {ti
       IsArc heads a → Standing junctions settled t → Standing junctions settled u
   stands-offered none-left is-arc s = s
   stands-offered {a} (skips some done rest) is-arc s = stands-offered rest (next-is a (is-arc some)) s
-  stands-offered {a} (offers some waits offered rest) is-arc s =
-      stands-offered rest (next-is a (is-arc some)) (stands-leaves s (head-below a (is-arc some)) waits (offered .leaves))
+  stands-offered {a} (offers some waits (missed on) rest) is-arc s = stands-offered rest (next-is a (is-arc some)) s
+  stands-offered {a} (offers some waits (offered on leaves) rest) is-arc s =
+      stands-offered rest (next-is a (is-arc some)) (stands-leaves s (head-below a (is-arc some)) waits leaves)

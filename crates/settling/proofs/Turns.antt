@@ -3,18 +3,20 @@
 -- last settled junction's tick are reached ever after.
 use Prim.Native.Nat.{ℕ, suc, _≤_, _<_}
 use mathlib.Core.Path.{_≡_, sym, _∙_}
-use mathlib.Core.Bool.{Bool, true, false}
+use mathlib.Core.Bool.{Bool, true, false, _&&_, cond}
 use mathlib.Core.List.{List}
 use mathlib.Core.Logic.{_⊎_, inl, inr, ⊎-elim, by-cases}
+use mathlib.Core.Option.{Option}
 use native.Mathlib.Decide.{decLt, ℕ-discrete}
 use native.Mathlib.Omega.{arith}
+use lib.Dec.{ltb, eqb}
 use lib.ListN.{length, getD, set, replicate, length-take, length-drop}
 use lib.Seq.{getD-set-same, getD-set-other}
-use borrow.Author.Tests.{lt-ltb, le-ltb}
-use Rattle.model.specs.Ticks.{last, never}
+use Rattle.model.specs.Ticks.{last, never, tick?}
 use Rattle.model.specs.Intervals.{passed}
 use Rattle.model.specs.Network.{Network, Accepted, arcs, intervals, speedOn, driveOf, netOf, arcSpeeds}
 use Rattle.model.specs.Labels.{noArc, labelsOf, predecessorsOf}
+use Rattle.model.proofs.Arrival.{arrival-by-last}
 use Rattle.model.proofs.Entries.{getD-inside, getD-all}
 use Rattle.model.proofs.IntervalPieces.{some-passed}
 use Rattle.model.proofs.Networks.{accepted-sound}
@@ -24,13 +26,15 @@ use Rattle.checking.specs.Question.{Taken}
 use Rattle.driving.specs.ArcKept.{ArcKept}
 use Rattle.tournament.specs.Tournament.{Least}
 use Rattle.settling.specs.code.Linked.{arcFrom, Linked}
-use Rattle.settling.specs.code.Offering.{Tables, tables, lowered, taken, Offered, AllOffered, none-left, skips, offers}
+use Rattle.settling.specs.code.Offering.{Tables, tables, lowered, taken, ArrivesOn, Leaves, ArcOffered, AllOffered, none-left, skips, offers}
 use Rattle.settling.proofs.Linking.{arc-from, arc-from-least}
 use Rattle.settling.proofs.Links.{arc-inside}
+use Rattle.settling.proofs.Offered.{arrives-at, arrives-never}
 use Rattle.settling.proofs.Queue.{Queued, Waits, Nearest, ByLast, none-waits}
 use Rattle.settling.proofs.Settling.{
   Settling,
   settling-starts,
+  labels-at-most-never,
   reached-by-last,
   settling-weakens,
   settle,
@@ -118,7 +122,8 @@ before-first N settled junction same b d =
     (λ other. sym (getD-set-other settled junction (getD (N .tails) b 0) true false other) ∙ d .1)
 
 -- Up to the next arc of the junction, only arc a is new.
-one-more : (N : Network) (settled : List Bool) (junction a : ℕ) {next : ℕ} → next ≡ arcFrom (N .tails) junction (suc a) → (b : ℕ) → HasOffered N settled junction next b → HasOffered N settled junction a b ⊎ (b ≡ a)
+one-more : (N : Network) (settled : List Bool) (junction a : ℕ) {next : ℕ} → next ≡ arcFrom (N .tails) junction (suc a) →
+    (b : ℕ) → HasOffered N settled junction next b → HasOffered N settled junction a b ⊎ (b ≡ a)
 one-more N settled junction a same b d =
     by-cases (ℕ-discrete (getD (N .tails) b 0) junction)
     (λ e.
@@ -150,26 +155,33 @@ module _ {N : Network} (accepted : Accepted N) {source departure tick : ℕ} {se
   pub skipped : getD settled head false ≡ true → Settling (netOf N) source departure tick settled D′ labels predecessors
   skipped = offer-skips s (accepted-sound N accepted) a is-arc tail-settled tail-label more
 
-  pub offered : getD settled head false ≡ false → Settling (netOf N) source departure tick settled D′ (lowered labels head arrives) (taken labels predecessors head arrives a)
-  offered waits =
+  keeps : getD labels head 0 ≤ arrives → (arrives ≡ getD labels head 0 → arrives < never → getD predecessors head 0 ≤ a) →
+      Settling (netOf N) source departure tick settled D′ labels predecessors
+  keeps no-lower lowest =
+      offer-keeps s (accepted-sound N accepted) a is-arc tail-settled tail-label more (rw label-is no-lower) (rw (label-is, predecessor-is) lowest)
+
+  pub missed : arrives ≡ never → Settling (netOf N) source departure tick settled D′ labels predecessors
+  missed unreached =
+      keeps (rw (← label-is) (omega (arith, labels-at-most-never s head))) (λ _ reached. absurd (omega arith))
+
+  pub offered : getD settled head false ≡ false → arrives < never →
+      Settling (netOf N) source departure tick settled D′ (lowered labels head arrives) (taken labels predecessors head arrives a)
+  offered waits reached =
       ⊎-elim
       (λ w. rw (w .0) (offer-lowers s (accepted-sound N accepted) a is-arc tail-settled tail-label more waits (rw label-is (w .1))))
-      (λ w. rw (w .0)
-      (by-cases (decLt arrives never)
-      (λ reached. rw (lt-ltb arrives never reached)
-      (⊎-elim
-      (λ e. rw (e .0)
-      (⊎-elim
-      (λ l. rw (l .0) (offer-ties s (accepted-sound N accepted) a is-arc tail-settled tail-label more (rw label-is (e .1)) reached (rw predecessor-is (l .1))))
-      (λ l. rw (l .0) (keeps (w .1) (λ _ _. l .1)))
-      (ltb-cases a (getD predecessors head 0))))
-      (λ e. rw (e .0) (keeps (w .1) (λ same _. absurd (e .1 same))))
-      (eqb-cases arrives (getD labels head 0))))
-      (λ unreached. rw (le-ltb arrives never (omega arith)) (keeps (w .1) (λ _ reached. absurd (unreached reached))))))
+      (λ w. rw (w .0) (⊎-elim (ties (w .1)) (λ e. rw (e .0) (keeps (w .1) (λ same _. absurd (e .1 same)))) (eqb-cases arrives (getD labels head 0))))
       (ltb-cases arrives (getD labels head 0))
     where
-      keeps : getD labels head 0 ≤ arrives → (arrives ≡ getD labels head 0 → arrives < never → getD predecessors head 0 ≤ a) → Settling (netOf N) source departure tick settled D′ labels predecessors
-      keeps no-lower lowest = offer-keeps s (accepted-sound N accepted) a is-arc tail-settled tail-label more (rw label-is no-lower) (rw (label-is, predecessor-is) lowest)
+      ties : getD labels head 0 ≤ arrives → (eqb arrives (getD labels head 0) ≡ true) × (arrives ≡ getD labels head 0) →
+          Settling (netOf N) source departure tick settled D′ labels
+          (cond (eqb arrives (getD labels head 0) && ltb a (getD predecessors head 0)) (set predecessors head a) predecessors)
+      ties no-lower (test, same) =
+          rw test
+          (⊎-elim
+          (λ l. rw (l .0)
+          (offer-ties s (accepted-sound N accepted) a is-arc tail-settled tail-label more (rw label-is same) reached (rw predecessor-is (l .1))))
+          (λ l. rw (l .0) (keeps no-lower (λ _ _. l .1)))
+          (ltb-cases a (getD predecessors head 0)))
 
   -- A settled junction keeps its label.
   pub settled-stays : getD settled head false ≡ false → (k : ℕ) → getD settled k false ≡ true → getD (lowered labels head arrives) k never ≡ getD labels k never
@@ -249,16 +261,28 @@ module _ {N : Network} {source departure : ℕ} (q : Taken N source departure) w
       interval-is = turn .interval-is;
     }
 
-    -- what the offer reckons is the arrival on the arc
-    reckons : {u : Tables} → (o : Offered (N .fences) (N .lengths) (N .speeds) a (getD (N .heads) a 0) tick interval t u) → o .reckoned ≡ driveOf N a tick
+    -- what the engine answers is the arrival on the arc
+    arrives-on : {arrived : Option ℕ} → ArrivesOn (N .fences) (N .lengths) (N .speeds) a tick interval arrived → arrived ≡ tick? (driveOf N a tick)
     unfolding driveOf speedOn
-    reckons o = o .is-arrival (arc-kept N (q .accepted) tick interval a (turn .settling .in-time) (turn .interval-is) (at .0))
+    arrives-on on = on (arc-kept N (q .accepted) tick interval a (turn .settling .in-time) (turn .interval-is) (at .0))
 
-    turn-offers : {u : Tables} → getD settled (getD (N .heads) a 0) false ≡ false →
-        Offered (N .fences) (N .lengths) (N .speeds) a (getD (N .heads) a 0) tick interval t u →
+    by-last : (driveOf N a tick ≤ last) ⊎ (driveOf N a tick ≡ never)
+    unfolding driveOf
+    by-last = arrival-by-last _ _ _
+
+    turn-misses : ArrivesOn (N .fences) (N .lengths) (N .speeds) a tick interval Option.none → Turn N source departure settled junction tick interval (getD next a 0) t
+    turn-misses on = record {
+      settling = missed (q .accepted) (turn .settling) a (at .0) tail-settled tail-label more (arrives-never (driveOf N a tick) by-last (arrives-on on));
+      junction-settled = turn .junction-settled;
+      tick-is = turn .tick-is;
+      interval-is = turn .interval-is;
+    }
+
+    turn-offers : {arrival : ℕ} {u : Tables} → getD settled (getD (N .heads) a 0) false ≡ false →
+        ArrivesOn (N .fences) (N .lengths) (N .speeds) a tick interval (Option.some arrival) → Leaves a (getD (N .heads) a 0) arrival t u →
         Turn N source departure settled junction tick interval (getD next a 0) u
-    turn-offers {u} waits o = record {
-      settling = rw (labels-are, predecessors-are) (offered (q .accepted) (turn .settling) a (at .0) tail-settled tail-label more waits);
+    turn-offers {arrival} {u} waits on leaves = record {
+      settling = rw (labels-are, predecessors-are) (offered (q .accepted) (turn .settling) a (at .0) tail-settled tail-label more waits (omega (arith, arrives .1)));
       junction-settled = turn .junction-settled;
       tick-is = rw labels-are (stays ∙ turn .tick-is);
       interval-is = turn .interval-is;
@@ -267,11 +291,14 @@ module _ {N : Network} {source departure : ℕ} (q : Taken N source departure) w
         head : ℕ
         head = getD (N .heads) a 0
 
+        arrives : (arrival ≡ driveOf N a tick) × (driveOf N a tick ≤ last)
+        arrives = arrives-at arrival (driveOf N a tick) (arrives-on on)
+
         labels-are : u .labels ≡ lowered (t .labels) head (driveOf N a tick)
-        labels-are = rw (reckons o) at (o .leaves .labels-are)
+        labels-are = rw (arrives .0) at (leaves .labels-are)
 
         predecessors-are : u .predecessors ≡ taken (t .labels) (t .predecessors) head (driveOf N a tick) a
-        predecessors-are = rw (reckons o) at (o .leaves .predecessors-are)
+        predecessors-are = rw (arrives .0) at (leaves .predecessors-are)
 
         stays : getD (lowered (t .labels) head (driveOf N a tick)) junction never ≡ getD (t .labels) junction never
         stays = settled-stays (q .accepted) (turn .settling) a (at .0) tail-settled tail-label more waits junction (turn .junction-settled)
@@ -282,8 +309,10 @@ module _ {N : Network} {source departure : ℕ} (q : Taken N source departure) w
   turn-through linked none-left is-arc turn = turn
   turn-through linked (skips some done rest) is-arc turn =
       turn-through linked rest (next-of N linked (is-arc some)) (turn-skips linked turn (is-arc some) done)
-  turn-through linked (offers some waits o rest) is-arc turn =
-      turn-through linked rest (next-of N linked (is-arc some)) (turn-offers linked turn (is-arc some) waits o)
+  turn-through linked (offers some waits (ArcOffered.missed on) rest) is-arc turn =
+      turn-through linked rest (next-of N linked (is-arc some)) (turn-misses linked turn (is-arc some) on)
+  turn-through linked (offers some waits (ArcOffered.offered on leaves) rest) is-arc turn =
+      turn-through linked rest (next-of N linked (is-arc some)) (turn-offers linked turn (is-arc some) waits on leaves)
 
   pub turn-ends : {settled : List Bool} {t : Tables} {junction tick interval reached : ℕ} →
       Turn N source departure settled junction tick interval noArc t → reached ≤ passed (N .fences) tick → Round N source departure settled reached t

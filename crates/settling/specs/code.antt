@@ -1,3 +1,3 @@
-pub mod Fitting
 pub mod Linked
 pub mod Offering
+pub mod Rounds

@@ -6,16 +6,14 @@ ghost use Rattle.model.specs.Labels.{noArc, labelsOf, predecessorsOf};
 ghost use Rattle.model.specs.Network.{netOf};
 ghost use Rattle.model.specs.Lent.{lentNetwork, networkIn};
 ghost use Rattle.settling.specs.Labelable.{Labelable};
-ghost use Rattle.settling.specs.code.Fitting.{Fits};
-use crate::fit::tables_fit;
+ghost use Rattle.fitting.specs.Fitting.{Fits};
 use crate::link::link_arcs;
-use crate::offer::offer_arcs;
-use driving::drive::fences_passed;
+use crate::settle::settle;
+use fitting::fit::fits;
 use model::label::NO_ARC;
 use model::label::UNREACHED;
 use model::limit::MAX_ARCS;
 use model::limit::MAX_JUNCTIONS;
-use model::tick::Tick;
 use tournament::tree::NODES;
 use tournament::tree::enter;
 use tournament::tree::junction_of;
@@ -49,7 +47,7 @@ fn label_all(
     labels: &mut [u32],
     predecessors: &mut [u16],
 )
-    requires { ⌜ Fits (networkIn junctions fences tails heads lengths speeds) source departure (now labels) (now predecessors) ⌝ }
+    requires { ⌜ Fits (networkIn junctions fences tails heads lengths speeds) source departure (length (now labels)) (length (now predecessors)) ⌝ }
     ensures labels { λ _. ⌜ (Labelable (lentNetwork junctions fences tails heads lengths speeds) source departure (now (labels .entry)) (now (predecessors .entry)) →
         now (labels .exit) ≡ labelsOf (netOf (lentNetwork junctions fences tails heads lengths speeds)) source departure) ⌝ }
     ensures predecessors { λ _. ⌜ (Labelable (lentNetwork junctions fences tails heads lengths speeds) source departure (now (labels .entry)) (now (predecessors .entry)) →
@@ -70,22 +68,16 @@ fn label_all(
         if key == UNREACHED {
             break;
         }
-        let junction = junction_of(key);
-        settled[junction] = true;
-        enter(&mut tree, junction, UNREACHED);
-        let tick = labels[junction];
-        // Settled labels never fall: the fences that the one before had reached, this one has reached too.
-        reached = fences_passed(fences, reached, tick);
-        offer_arcs(
-            first[junction],
-            tick,
-            reached - 1,
+        reached = settle(
+            junction_of(key),
+            reached,
             fences,
             heads,
             lengths,
             speeds,
+            &first,
             &next,
-            &settled,
+            &mut settled,
             labels,
             predecessors,
             &mut tree,
@@ -112,19 +104,18 @@ pub fn label_from(
     ensures predecessors { λ _. ⌜ (Labelable (lentNetwork junctions fences tails heads lengths speeds) source departure (now (labels .entry)) (now (predecessors .entry)) →
         now (predecessors .exit) ≡ predecessorsOf (netOf (lentNetwork junctions fences tails heads lengths speeds)) source departure) ⌝ }
 {
-    if !tables_fit(junctions, fences, tails, heads, lengths, speeds) {
-        return;
-    }
-    if junctions <= source {
-        return;
-    }
-    if Tick::LAST < departure {
-        return;
-    }
-    if labels.len() != junctions {
-        return;
-    }
-    if predecessors.len() != junctions {
+    if !fits(
+        junctions,
+        fences,
+        tails,
+        heads,
+        lengths,
+        speeds,
+        source,
+        departure,
+        labels.len(),
+        predecessors.len(),
+    ) {
         return;
     }
     label_all(

@@ -1,30 +1,45 @@
 // The offers of a settled junction's arcs: each arc's arrival may lower its head's label.
-ghost use mathlib.Core.Path.{_≡_};
-ghost use Rattle.model.specs.Ticks.{arrivedAt};
-ghost use Rattle.settling.specs.code.Offering.{tables, labelOf, Offerable, Offered, Drivable, AllOffered};
+ghost use Rattle.settling.specs.code.Offering.{tables, HasArc, Offerable, Leaves, ArcOffered, Drivable, AllOffered};
 use driving::drive::drive;
 use model::label::NO_ARC;
-use model::label::UNREACHED;
 use model::limit::MAX_ARCS;
 use model::limit::MAX_JUNCTIONS;
 use model::tick::Arrival;
+use tournament::tree::LEAVES;
 use tournament::tree::NODES;
 use tournament::tree::enter;
 use tournament::tree::key_of;
 
-// The arrival as a label.
-fn label_of(arrival: Arrival) -> u32
-    ensures { λ r. ⌜ r ≡ labelOf (arrivedAt arrival) ⌝ }
+// Offers an arc's arrival to its head: an earlier one lowers its label, and of the arcs that arrive at the label the lowest-numbered
+// is the predecessor. A head whose label is lowered gets that label's key.
+fn offer(
+    a: u16,
+    head: usize,
+    arrival: u32,
+    labels: &mut [u32],
+    predecessors: &mut [u16],
+    tree: &mut [u32; NODES],
+)
+    requires { ⌜ Offerable head (tables (now labels) (now predecessors) (now tree)) ⌝ }
+    ensures { λ _. ⌜ Leaves a head arrival (tables (now (labels .entry)) (now (predecessors .entry)) (now (tree .entry)))
+        (tables (now (labels .exit)) (now (predecessors .exit)) (now (tree .exit))) ⌝ }
 {
-    match arrival {
-        Arrival::At(tick) => tick.number,
-        Arrival::Never => UNREACHED,
+    let label = labels[head];
+    if arrival < label {
+        labels[head] = arrival;
+        predecessors[head] = a;
+        enter(tree, head, key_of(arrival, head));
+        return;
+    }
+    if arrival == label {
+        if a < predecessors[head] {
+            predecessors[head] = a;
+        }
     }
 }
 
-// Drives an arc from its tail's label: an earlier arrival lowers its head's label, and of the arcs that arrive at the label
-// the lowest-numbered is the predecessor. A head whose label is lowered gets that label's key.
-fn offer(
+// Drives an arc from a tick on, and offers its arrival.
+fn offer_arc(
     a: u16,
     head: usize,
     tick: u32,
@@ -36,29 +51,17 @@ fn offer(
     predecessors: &mut [u16],
     tree: &mut [u32; NODES],
 )
-    requires { ⌜ Offerable a head (now fences) (now lengths) (now speeds) (tables (now labels) (now predecessors) (now tree)) ⌝ }
-    ensures { λ _. ⌜ Offered (now (fences .entry)) (now (lengths .entry)) (now (speeds .entry)) a head tick interval
+    requires { ⌜ HasArc a (now fences) (now lengths) (now speeds) ⌝ }
+    requires { ⌜ Offerable head (tables (now labels) (now predecessors) (now tree)) ⌝ }
+    ensures { λ _. ⌜ ArcOffered (now (fences .entry)) (now (lengths .entry)) (now (speeds .entry)) a head tick interval
         (tables (now (labels .entry)) (now (predecessors .entry)) (now (tree .entry)))
         (tables (now (labels .exit)) (now (predecessors .exit)) (now (tree .exit))) ⌝ }
 {
     let arc = a as usize;
     let from = arc * fences.len();
     let to = from + fences.len();
-    let arrival = label_of(drive(tick, interval, lengths[arc], fences, &speeds[from..to]));
-    let label = labels[head];
-    if arrival < label {
-        labels[head] = arrival;
-        predecessors[head] = a;
-        enter(tree, head, key_of(arrival, head));
-        return;
-    }
-    if arrival == UNREACHED {
-        return;
-    }
-    if arrival == label {
-        if a < predecessors[head] {
-            predecessors[head] = a;
-        }
+    if let Arrival::At(arrival) = drive(tick, interval, lengths[arc], fences, &speeds[from..to]) {
+        offer(a, head, arrival.number, labels, predecessors, tree);
     }
 }
 
@@ -85,10 +88,11 @@ pub(crate) fn offer_arcs(
     let mut a = first;
     while a != NO_ARC {
         let arc = a as usize;
-        let head = heads[arc] as usize;
+        // The remainder is the head: it tells the compiler that finding the head's leaf needs no mask.
+        let head = (heads[arc] as usize) % LEAVES;
         // A settled junction's label is no later than the tick, and driving takes time: an arc to it arrives later.
         if !settled[head] {
-            offer(
+            offer_arc(
                 a,
                 head,
                 tick,

@@ -5,7 +5,7 @@ ghost use Prim.Native.Nat.{_<_, min};
 ghost use Rattle.tournament.specs.Tournament.{leaves, Tournament, Entered, Least, keyOf, junctionOf};
 
 // The least power of two that is no less than the number of junctions, so that all leaves lie equally deep.
-const LEAVES: usize = 256;
+pub const LEAVES: usize = 256;
 
 // The nodes 2 k and 2 k + 1 stand below node k. The leaves are the nodes from LEAVES on, and there is no node 0.
 pub const NODES: usize = 2 * LEAVES;

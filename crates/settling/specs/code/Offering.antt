@@ -6,7 +6,7 @@ use mathlib.Core.List.{List}
 use mathlib.Core.Option.{Option, none, some}
 use lib.Dec.{ltb, eqb}
 use lib.ListN.{length, getD, set}
-use Rattle.model.specs.Ticks.{never}
+use Rattle.model.specs.Ticks.{tick?}
 use Rattle.model.specs.Limits.{maxJunctions, maxArcs, maxIntervals}
 use Rattle.model.specs.Labels.{noArc}
 use Rattle.model.specs.Flow.{spansOf, arrival}
@@ -30,10 +30,10 @@ tables labels predecessors tree = record { labels = labels; predecessors = prede
 abbrev pub arrivalOn : List ℕ → List ℕ → List ℕ → ℕ → ℕ → ℕ
 arrivalOn fences lengths speeds a t = arrival (speedAt fences (arcSpeeds fences speeds a)) (spansOf (getD lengths a 0)) t
 
--- An arrival as a label.
-abbrev pub labelOf : Option ℕ → ℕ
-labelOf (some t) = t
-labelOf none = never
+-- What driving the arc comes to, where the arc keeps the rules.
+abbrev pub ArrivesOn : List ℕ → List ℕ → List ℕ → ℕ → ℕ → ℕ → Option ℕ → Type 0
+ArrivesOn fences lengths speeds a tick interval arrived =
+    ArcKept tick interval (getD lengths a 0) fences (arcSpeeds fences speeds a) → arrived ≡ tick? (arrivalOn fences lengths speeds a tick)
 
 -- An earlier arrival lowers the head's label.
 abbrev pub lowered : List ℕ → ℕ → ℕ → List ℕ
@@ -43,19 +43,22 @@ lowered labels head t = cond (ltb t (getD labels head 0)) (set labels head t) la
 abbrev pub taken : List ℕ → List ℕ → ℕ → ℕ → ℕ → List ℕ
 taken labels predecessors head t a =
     cond (ltb t (getD labels head 0)) (set predecessors head a)
-    (cond (ltb t never && eqb t (getD labels head 0) && ltb a (getD predecessors head 0)) (set predecessors head a) predecessors)
+    (cond (eqb t (getD labels head 0) && ltb a (getD predecessors head 0)) (set predecessors head a) predecessors)
 
 -- A head whose label is lowered gets the key of its new label.
 pub record Rekeyed (labels before : List ℕ) (head t : ℕ) (after : List ℕ) : Type 0 where
   pub entered : t < getD labels head 0 → Entered before head (keyOf t head) after
   pub kept : getD labels head 0 ≤ t → after ≡ before
 
--- What an offer is handed.
-pub record Offerable (a head : ℕ) (fences lengths speeds : List ℕ) (before : Tables) : Type 0 where
+-- The tables have the arc.
+pub record HasArc (a : ℕ) (fences lengths speeds : List ℕ) : Type 0 where
   pub few-arcs : a < maxArcs
   pub few-intervals : length fences ≤ maxIntervals
   pub has-length : a < length lengths
   pub has-speeds : a * length fences + length fences ≤ length speeds
+
+-- They have the head.
+pub record Offerable (head : ℕ) (before : Tables) : Type 0 where
   pub is-junction : head < maxJunctions
   pub has-label : head < length (before .labels)
   pub has-predecessor : head < length (before .predecessors)
@@ -67,11 +70,11 @@ pub record Leaves (a head t : ℕ) (before after : Tables) : Type 0 where
   pub predecessors-are : after .predecessors ≡ taken (before .labels) (before .predecessors) head t a
   pub rekeyed : Rekeyed (before .labels) (before .tree) head t (after .tree)
 
--- The tick that it reckons is the arrival on the arc, where the arc keeps the rules.
-pub record Offered (fences lengths speeds : List ℕ) (a head tick interval : ℕ) (before after : Tables) : Type 0 where
-  pub reckoned : ℕ
-  pub is-arrival : ArcKept tick interval (getD lengths a 0) fences (arcSpeeds fences speeds a) → reckoned ≡ arrivalOn fences lengths speeds a tick
-  pub leaves : Leaves a head reckoned before after
+-- What driving an arc leaves: where it does not arrive by the last tick, all is as it was.
+pub data ArcOffered (fences lengths speeds : List ℕ) (a head tick interval : ℕ) : Tables → Tables → Type 0 where
+  missed : {t : Tables} → ArrivesOn fences lengths speeds a tick interval none → ArcOffered fences lengths speeds a head tick interval t t
+  offered : {arrival : ℕ} {t u : Tables} → ArrivesOn fences lengths speeds a tick interval (some arrival) → Leaves a head arrival t u →
+      ArcOffered fences lengths speeds a head tick interval t u
 
 -- ---- The offers of a junction's arcs
 
@@ -88,13 +91,13 @@ pub record Drivable (first : ℕ) (fences heads lengths speeds next : List ℕ) 
   pub next-is : (a : ℕ) → a < length heads → (getD next a 0 ≡ noArc → ⊥) → (a < getD next a 0) × (getD next a 0 < length heads)
   pub tournament : Tournament (before .tree)
 
--- From arc a on along the links, each arc to a head that is not settled has made its offer, one after the other.
+-- From arc a on along the links, each arc to a head that is not settled has been driven, one after the other.
 pub data AllOffered (fences heads lengths speeds next : List ℕ) (settled : List Bool) (tick interval : ℕ) : ℕ → Tables → Tables → Type 0 where
   none-left : {t : Tables} → AllOffered fences heads lengths speeds next settled tick interval noArc t t
   skips : {a : ℕ} {t u : Tables} → (a ≡ noArc → ⊥) → getD settled (getD heads a 0) false ≡ true →
       AllOffered fences heads lengths speeds next settled tick interval (getD next a 0) t u →
       AllOffered fences heads lengths speeds next settled tick interval a t u
   offers : {a : ℕ} {t v u : Tables} → (a ≡ noArc → ⊥) → getD settled (getD heads a 0) false ≡ false →
-      Offered fences lengths speeds a (getD heads a 0) tick interval t v →
+      ArcOffered fences lengths speeds a (getD heads a 0) tick interval t v →
       AllOffered fences heads lengths speeds next settled tick interval (getD next a 0) v u →
       AllOffered fences heads lengths speeds next settled tick interval a t u

@@ -46,7 +46,12 @@ same-length-2 : tie.Need-same-length-2 Inv-loop μ-loop
 same-length-2 c = filled-length (c .before .loop .inv .1)
 
 returns : tie.Need-returns Inv-loop μ-loop
-returns c = (filled-whole (c .before .loop .inv .0) (long c), filled-whole (c .before .loop .inv .1) (omega (arith, long c, c .before .before .pre)) ∙ ap (λ n. replicate n noArc) (c .before .before .pre))
+returns c =
+    let (labels-filled, predecessors-filled) = c .before .loop .inv in
+    let same = c .before .before .pre in (
+      filled-whole labels-filled (long c),
+      filled-whole predecessors-filled (omega (arith, long c, same)) ∙ ap (λ n. replicate n noArc) same,
+    )
 
 pub clear-spec : {M : Type 1} → statement M
 clear-spec =

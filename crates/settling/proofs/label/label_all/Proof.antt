@@ -1,18 +1,19 @@
 -- `label::label_all` keeps `Between` from round to round, and where no junction is left to settle the tables are the only ones that
 -- satisfy the conditions.
 use borrow.Author.Needs.{needs}
-use Prim.Native.Nat.{_≤_, _<_}
+use Prim.Native.Nat.{_<_}
 use mathlib.Core.Path.{_≡_, refl, sym, ap, _∙_}
 use native.Mathlib.Omega.{arith}
-use lib.ListN.{length, getD, set, replicate, length-replicate}
+use lib.ListN.{length, set, replicate, length-replicate}
 use denote.Ref.{now}
 use Rattle.model.specs.Ticks.{never}
-use Rattle.model.specs.Labels.{noArc}
-use Rattle.model.specs.Network.{Network, network}
+use Rattle.model.specs.Labels.{noArc, labelsOf, predecessorsOf}
+use Rattle.model.specs.Network.{Network, network, netOf}
+use Rattle.checking.specs.Question.{Taken}
 use Rattle.tournament.proofs.Matches.{equal-keys}
-use Rattle.settling.specs.code.Offering.{Tables, tables}
+use Rattle.settling.specs.code.Offering.{tables}
 use Rattle.settling.proofs.Queue.{Waits, Nearest, ByLast, least-waits}
-use Rattle.settling.proofs.Standing.{Standing, waiting, waiting-falls, stands-first, stands-settles}
+use Rattle.settling.proofs.Standing.{waiting, waiting-falls, stands-first}
 use Rattle.settling.proofs.Turns.{round-starts, round-ends}
 use Rattle.settling.proofs.Rounds.{Between, drivable, between-goes-on}
 use Rattle.settling.proofs.label.label_all.Statement.{statement}
@@ -56,14 +57,11 @@ nearest c =
 below : (c : tie.After-junction-of Inv-loop μ-loop) → c .junction-of .result < 200
 below c = omega (arith, nearest c .0 .inside, at-loop c .loop .inv .standing .labels-long, start-of (at-loop c) .pre .tables-fit .junctions-fit)
 
-abbrev junction-at : tie.After-fences-passed Inv-loop μ-loop → tie.After-junction-of Inv-loop μ-loop
-junction-at c = c .before .before .before .before
+abbrev junction-at : tie.After-tree3 Inv-loop μ-loop → tie.After-junction-of Inv-loop μ-loop
+junction-at c = c .before .before .before .before .before .before
 
-some-reached : (c : tie.After-fences-passed Inv-loop μ-loop) → 1 ≤ c .fences-passed .result
-some-reached c = omega (arith, c .fences-passed .ensures, at-loop (junction-at c) .loop .inv .some-reached)
-
-abbrev offering : tie.After-offer-arcs Inv-loop μ-loop → tie.After-fences-passed Inv-loop μ-loop
-offering c = c .before .before .before .before .before .before
+abbrev settling : tie.After-slice-known6 Inv-loop μ-loop → tie.After-settle Inv-loop μ-loop
+settling c = c .before .before .before .before
 
 clear-requires : tie.Need-clear-requires Inv-loop μ-loop
 clear-requires c κs =
@@ -100,46 +98,28 @@ loop-holds c =
       round = λ q. round-starts q labels-are predecessors-are;
     }
 
-array-write-settled : tie.Need-array-write-settled Inv-loop μ-loop
-array-write-settled c = omega (arith, below c)
-
-mul-tick : tie.Need-mul-tick Inv-loop μ-loop
-mul-tick c = omega (arith, below (c .before .before))
-
-slice-read-tick : tie.Need-slice-read-tick Inv-loop μ-loop
-slice-read-tick c = nearest (c .before .before .before) .0 .inside
-
-mul-offer-arcs : tie.Need-mul-offer-arcs Inv-loop μ-loop
-mul-offer-arcs c = omega (arith, below (junction-at c))
-
-array-read-offer-arcs : tie.Need-array-read-offer-arcs Inv-loop μ-loop
-array-read-offer-arcs c = below (junction-at c)
-
-sub-offer-arcs : tie.Need-sub-offer-arcs Inv-loop μ-loop
-sub-offer-arcs c = some-reached c
-
-offer-arcs-requires : tie.Need-offer-arcs-requires Inv-loop μ-loop
-offer-arcs-requires c κs =
-    let f = c .before .before .before .before .before in
-    let j = junction-at f in
+settle-requires : tie.Need-settle-requires Inv-loop μ-loop
+settle-requires c κs =
+    let j = junction-at c in
     let b = at-loop j .loop .inv in
-    let entered = f .before .before .enter2 .ensures (b .standing .queued .tournament) (omega (arith, below j)) in
-    drivable (start-of (at-loop j) .pre .tables-fit) (b .linked) (stands-settles (b .standing) (below j) entered) (below j)
+    record {
+      has-label = nearest j .0 .inside;
+      some-reached = b .some-reached;
+      drivable = drivable (start-of (at-loop j) .pre .tables-fit) (b .linked) (b .standing) (below j);
+    }
 
 loop-less : tie.Need-loop-less Inv-loop μ-loop
 loop-less c =
-    let j = junction-at (offering (c .before .before .before .before)) in
-    waiting-falls _ _ (omega (arith, below j, at-loop j .loop .inv .standing .settled-long)) (nearest j .0 .unsettled)
+    let s = settling c in
+    let j = junction-at (s .before) in
+    rw (s .settle .ensures .settled-is)
+    (waiting-falls _ _ (omega (arith, below j, at-loop j .loop .inv .standing .settled-long)) (nearest j .0 .unsettled))
 
 loop-again : tie.Need-loop-again Inv-loop μ-loop
 loop-again c =
-    let o = c .before .before .before .before in
-    let f = offering o in
-    let j = junction-at f in
-    let b = at-loop j .loop .inv in
-    let entered = f .before .before .enter2 .ensures (b .standing .queued .tournament) (omega (arith, below j)) in
-    between-goes-on (start-of (at-loop j) .pre .tables-fit) b (below j) (nearest j .0) (nearest j .1)
-    entered (f .fences-passed .ensures) (omega (arith, some-reached f)) (o .offer-arcs .ensures)
+    let s = settling c in
+    let j = junction-at (s .before) in
+    between-goes-on (start-of (at-loop j) .pre .tables-fit) (at-loop j .loop .inv) (below j) (nearest j .0) (nearest j .1) (s .settle .ensures)
 
 same-length : tie.Need-same-length Inv-loop μ-loop
 same-length c = c .before .before .before .loop .inv .standing .labels-long ∙ sym (start-of (c .before .before .before) .pre .labels-long)
@@ -147,14 +127,23 @@ same-length c = c .before .before .before .loop .inv .standing .labels-long ∙ 
 same-length-2 : tie.Need-same-length-2 Inv-loop μ-loop
 same-length-2 c = c .before .before .before .loop .inv .standing .predecessors-long ∙ sym (start-of (c .before .before .before) .pre .predecessors-long)
 
-returns : tie.Need-returns Inv-loop μ-loop
-returns c =
+abbrev N : tie.Start Inv-loop μ-loop → Network
+N s = network (s .args .junctions) (now (s .args .fences)) (now (s .args .tails)) (now (s .args .heads)) (now (s .args .lengths)) (now (s .args .speeds))
+
+-- no junction is left
+ended : (c : tie.Then1 Inv-loop μ-loop) →
+    let l = c .before .before .before in
+    let s = start-of l in
+    Taken (N s) (s .args .source) (s .args .departure) →
+    (l .loop .labels ≡ labelsOf (netOf (N s)) (s .args .source) (s .args .departure))
+    × (l .loop .predecessors ≡ predecessorsOf (netOf (N s)) (s .args .source) (s .args .departure))
+ended c q =
     let b = c .before .before .before .loop .inv in
     let least = c .before .least-key .ensures (b .standing .queued .tournament) in
-    let none = c .if1 .taken in (
-      (λ q. round-ends (q .taken) (b .round (q .taken)) (b .standing .queued) least (omega (arith, none)) .0),
-      (λ q. round-ends (q .taken) (b .round (q .taken)) (b .standing .queued) least (omega (arith, none)) .1),
-    )
+    round-ends {N = N (start-of (c .before .before .before))} q (b .round q) (b .standing .queued) least (omega (arith, c .if1 .taken))
+
+returns : tie.Need-returns Inv-loop μ-loop
+returns c = ((λ q. ended c (q .taken) .0), (λ q. ended c (q .taken) .1))
 
 pub label-all-spec : {M : Type 1} → statement M
 label-all-spec =
@@ -171,15 +160,7 @@ label-all-spec =
     loop-holds
     (λ c κs. search needs)
     (λ c κs. search needs)
-    array-write-settled
-    (λ c κs. search needs)
-    mul-tick
-    slice-read-tick
-    (λ c κs. search needs)
-    mul-offer-arcs
-    array-read-offer-arcs
-    sub-offer-arcs
-    offer-arcs-requires
+    settle-requires
     loop-less
     loop-again
     same-length

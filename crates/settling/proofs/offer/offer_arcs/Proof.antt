@@ -1,6 +1,5 @@
 -- `offer::offer_arcs` keeps `Onward` along the links, whose arcs have ever higher numbers.
-use borrow.Author.Needs.{needs}
-use Prim.Native.Nat.{_-_, _<_}
+use Prim.Native.Nat.{_-_, _%_, _<_}
 use mathlib.Core.Logic.{⊎-elim}
 use native.Mathlib.Omega.{arith}
 use lib.ListN.{length, getD}
@@ -9,7 +8,7 @@ use denote.Ref.{now}
 use borrow.Author.Tests.{not-true, not-false}
 use Rattle.model.specs.Labels.{noArc}
 use Rattle.settling.specs.code.Offering.{tables, Offerable, none-left}
-use Rattle.settling.proofs.Links.{Onward, onward-starts, onward-offerable, onward-skips, onward-offers, next-higher}
+use Rattle.settling.proofs.Links.{Onward, onward-starts, onward-arc, onward-offerable, onward-skips, onward-offers, next-higher}
 use Rattle.settling.proofs.offer.offer_arcs.Statement.{statement}
 use Rattle.settling.proofs.offer.offer_arcs.Tie as tie
 
@@ -33,9 +32,8 @@ arc-at c = c .before .loop .inv .arc-is (c .loop-test .taken)
 few : (c : tie.In-loop Inv-loop μ-loop) → c .before .loop .a < 640
 few c = omega (arith, arc-at c, handed c .pre .few-arcs)
 
-abbrev offerable : (c : tie.In-loop Inv-loop μ-loop) → Offerable (c .before .loop .a) (getD (now (handed c .args .heads)) (c .before .loop .a) 0)
-    (now (handed c .args .fences)) (now (handed c .args .lengths)) (now (handed c .args .speeds))
-    (tables (c .before .loop .labels) (c .before .loop .predecessors) (c .before .loop .tree))
+abbrev offerable : (c : tie.In-loop Inv-loop μ-loop) →
+    Offerable (getD (now (handed c .args .heads)) (c .before .loop .a) 0 % 256) (tables (c .before .loop .labels) (c .before .loop .predecessors) (c .before .loop .tree))
 offerable c = onward-offerable (handed c .pre) (c .before .loop .inv) (c .loop-test .taken)
 
 loop-holds : tie.Need-loop-holds Inv-loop μ-loop
@@ -56,8 +54,10 @@ cast-head c = fits-widen tt (c .shared-slice-known5 .given _)
 element-copy-out-if1 : tie.Need-element-copy-out-if1 Inv-loop μ-loop
 element-copy-out-if1 c = offerable (c .before) .is-junction
 
-offer-requires : tie.Need-offer-requires Inv-loop μ-loop
-offer-requires c κs = offerable (c .before .before .before .before .before .before)
+offer-arc-requires : tie.Need-offer-arc-requires Inv-loop μ-loop
+offer-arc-requires c κs =
+    let i = c .before .before .before .before .before .before in
+    (onward-arc (handed i .pre) (i .before .loop .inv) (i .loop-test .taken), offerable i)
 
 mul-a : tie.Need-mul-a Inv-loop μ-loop
 mul-a c = omega (arith, few (c .before .before .before))
@@ -73,9 +73,10 @@ loop-less c =
 loop-again : tie.Need-loop-again Inv-loop μ-loop
 loop-again c =
     let i = c .before .before .before .before in
+    let some = i .loop-test .taken in
     ⊎-elim
-    (λ w. rw (w .9, w .10, w .11) (onward-offers (handed i .pre) (i .before .loop .inv) (i .loop-test .taken) (not-true _ (w .0 .taken)) (w .4 .ensures)))
-    (λ w. rw (w .1, w .2, w .3) (onward-skips (handed i .pre) (i .before .loop .inv) (i .loop-test .taken) (not-false _ (w .0 .left))))
+    (λ w. rw (w .9, w .10, w .11) (onward-offers (handed i .pre) (i .before .loop .inv) some (not-true _ (w .0 .taken)) (w .4 .ensures)))
+    (λ w. rw (w .1, w .2, w .3) (onward-skips (handed i .pre) (i .before .loop .inv) some (not-false _ (w .0 .left))))
     (c .before .if1 .came)
 
 same-length : tie.Need-same-length Inv-loop μ-loop
@@ -101,7 +102,7 @@ offer-arcs-spec =
     shared-slice-read-head
     cast-head
     element-copy-out-if1
-    offer-requires
+    offer-arc-requires
     mul-a
     element-copy-out-a
     loop-less

@@ -1,4 +1,4 @@
--- What the labelling's indices rest on.
+-- What the indices of a labelling rest on.
 use Prim.Native.Nat.{ℕ, _*_, _≤_, _<_}
 use mathlib.Core.Path.{_≡_}
 use mathlib.Core.List.{List}
@@ -7,7 +7,7 @@ use Rattle.model.specs.Ticks.{last}
 use Rattle.model.specs.Limits.{maxJunctions, maxArcs, maxIntervals}
 use Rattle.model.specs.Network.{Network, arcs, intervals}
 
--- The least number below which, added to one, all ends lie.
+-- The highest of the ends, or 0 where there is none: what lies above all of them lies above it.
 pub record Highest (ends : List ℕ) (high : ℕ) : Type 0 where
   pub no-higher : (a : ℕ) → a < length ends → getD ends a 0 ≤ high
   pub least : (n : ℕ) → 0 < n → ((a : ℕ) → a < length ends → getD ends a 0 < n) → high < n
@@ -24,10 +24,10 @@ pub record TablesFit (N : Network) : Type 0 where
   pub tail-below : (a : ℕ) → a < arcs N → getD (N .tails) a 0 < N .junctions
   pub head-below : (a : ℕ) → a < arcs N → getD (N .heads) a 0 < N .junctions
 
--- So do the source, the departure and the buffers.
-pub record Fits (N : Network) (source departure : ℕ) (labels predecessors : List ℕ) : Type 0 where
+-- So are the source and the departure, and the buffers have an entry for each junction.
+pub record Fits (N : Network) (source departure labels predecessors : ℕ) : Type 0 where
   pub tables-fit : TablesFit N
   pub source-below : source < N .junctions
   pub in-time : departure ≤ last
-  pub labels-long : length labels ≡ N .junctions
-  pub predecessors-long : length predecessors ≡ N .junctions
+  pub labels-long : labels ≡ N .junctions
+  pub predecessors-long : predecessors ≡ N .junctions

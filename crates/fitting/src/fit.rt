@@ -1,13 +1,14 @@
-// Whether tables lie within the limits: what the labelling's indices rest on. A network that is accepted does.
+// Whether all that a labelling is lent fits together, so that its indices lie inside.
 ghost use mathlib.Core.Path.{_≡_};
 ghost use mathlib.Core.Bool.{true};
 ghost use mathlib.Core.Logic.{_↔_};
 ghost use Prim.Native.Nat.{max};
 ghost use Rattle.model.specs.Lent.{lentNetwork};
-ghost use Rattle.settling.specs.code.Fitting.{Highest, TablesFit};
+ghost use Rattle.fitting.specs.Fitting.{Highest, TablesFit, Fits};
 use model::limit::MAX_ARCS;
 use model::limit::MAX_INTERVALS;
 use model::limit::MAX_JUNCTIONS;
+use model::tick::Tick;
 
 fn greater(a: u16, b: u16) -> u16
     ensures { λ r. ⌜ r ≡ max a b ⌝ }
@@ -28,7 +29,7 @@ fn highest(ends: &[u16]) -> u16
     high
 }
 
-pub(crate) fn tables_fit(
+fn tables_fit(
     junctions: usize,
     fences: &[u32],
     tails: &[u16],
@@ -60,4 +61,34 @@ pub(crate) fn tables_fit(
         return false;
     }
     (highest(heads) as usize) < junctions
+}
+
+// The buffers are told by their lengths.
+pub fn fits(
+    junctions: usize,
+    fences: &[u32],
+    tails: &[u16],
+    heads: &[u16],
+    lengths: &[u32],
+    speeds: &[u8],
+    source: usize,
+    departure: u32,
+    label_count: usize,
+    predecessor_count: usize,
+) -> bool
+    ensures { λ r. ⌜ (r ≡ true) ↔ Fits (lentNetwork junctions fences tails heads lengths speeds) source departure «label_count» «predecessor_count» ⌝ }
+{
+    if junctions <= source {
+        return false;
+    }
+    if Tick::LAST < departure {
+        return false;
+    }
+    if label_count != junctions {
+        return false;
+    }
+    if predecessor_count != junctions {
+        return false;
+    }
+    tables_fit(junctions, fences, tails, heads, lengths, speeds)
 }

@@ -1,11 +1,10 @@
 -- `fit::highest` looks through the ends: the highest of those before a is known.
 use borrow.Author.Needs.{needs}
-use Prim.Native.Nat.{_-_, _≤_}
-use native.Mathlib.Omega.{arith}
-use lib.ListN.{length, take}
-use Rattle.settling.proofs.Fitting.{HighestTo, high-starts, high-goes-on, high-ends}
-use Rattle.settling.proofs.fit.highest.Statement.{statement}
-use Rattle.settling.proofs.fit.highest.Tie as tie
+use Prim.Native.Nat.{_-_}
+use lib.ListN.{length}
+use Rattle.fitting.proofs.Fitting.{HighestTo, high-starts, high-goes-on, high-ends}
+use Rattle.fitting.proofs.fit.highest.Statement.{statement}
+use Rattle.fitting.proofs.fit.highest.Tie as tie
 
 abbrev Inv-loop : tie.InvT-loop
 Inv-loop ends high₀ a₀ high a = HighestTo ends a high

@@ -1,13 +1,13 @@
 -- `fit::tables_fit` tells whether the tables fit: each test that fails breaks one of the conditions, and the last decides.
 use borrow.Author.Needs.{needs}
-use Prim.Native.Nat.{ℕ, _*_, _≤_, _<_}
+use Prim.Native.Nat.{ℕ, _*_, _≤_}
 use mir.Syntax.{w64}
 use mir.Val.{Fits}
 use native.Mathlib.Nat.{mul-le-mul}
 use native.Mathlib.Omega.{arith}
-use Rattle.settling.proofs.Fitting.{refuses, heads-decide}
-use Rattle.settling.proofs.fit.tables_fit.Statement.{statement}
-use Rattle.settling.proofs.fit.tables_fit.Tie as tie
+use Rattle.fitting.proofs.Fitting.{refuses, heads-decide}
+use Rattle.fitting.proofs.fit.tables_fit.Statement.{statement}
+use Rattle.fitting.proofs.fit.tables_fit.Tie as tie
 
 short-product : (m n : ℕ) → m ≤ 640 → n ≤ 96 → Fits w64 (m * n)
 short-product m n p q = omega (arith, mul-le-mul {n₂ = 640} {m₂ = 96} p q)

@@ -11,7 +11,7 @@ use lib.ListN.{length, getD}
 use borrow.Author.Tests.{ltb-true, lt-ltb}
 use Rattle.model.specs.Network.{Network, Accepted}
 use Rattle.checking.proofs.Flags.{true-not-false}
-use Rattle.settling.specs.code.Fitting.{Highest, TablesFit}
+use Rattle.fitting.specs.Fitting.{Highest, TablesFit}
 
 -- ---- The scan for the highest end
 
@@ -37,7 +37,7 @@ high-ends h done = record { no-higher = λ a inside. h .no-higher a (omega arith
 
 -- ---- The answer
 
-pub refuses : {N : Network} → (TablesFit N → ⊥) → (false ≡ true) ↔ TablesFit N
+pub refuses : {Fit : Type 0} → (Fit → ⊥) → (false ≡ true) ↔ Fit
 refuses unfit = (λ e. absurd (true-not-false e refl), λ fit. absurd (unfit fit))
 
 -- Where all else fits, the heads decide.

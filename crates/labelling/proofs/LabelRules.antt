@@ -61,7 +61,13 @@ module _ (N : Network) (source departure : ℕ) (labels predecessors : List ℕ)
   labelable-question q = taken-kept N source departure (q .taken)
 
   labelable-buffers : Labelable N source departure labels predecessors → AllKept buffers
-  labelable-buffers q = (ap not (both-true (eq-eqb (length labels) (N .junctions) (q .labels-long)) (eq-eqb (length predecessors) (N .junctions) (q .predecessors-long))), tt)
+  labelable-buffers q =
+      let labels-test = eq-eqb (length labels) (N .junctions) (q .labels-long) in
+      let predecessors-test = eq-eqb (length predecessors) (N .junctions) (q .predecessors-long) in
+      (ap not (both-true labels-test predecessors-test), tt)
+
+  labelable-answers : Labelable N source departure labels predecessors → answer ≡ replied tt
+  labelable-answers q = replies (labelable-question q) (labelable-buffers q)
 
   pub answered : answer ≡ replied tt → Labelable N source departure labels predecessors
   unfolding labelsAnswer
@@ -77,7 +83,7 @@ module _ (N : Network) (source departure : ℕ) (labels predecessors : List ℕ)
 
 pub labels-replies-when-labelable : LabelsRepliesWhenLabelable
 labels-replies-when-labelable N source departure labels predecessors =
-    (answered N source departure labels predecessors, (λ q. replies N source departure labels predecessors (labelable-question N source departure labels predecessors q) (labelable-buffers N source departure labels predecessors q)))
+    (answered N source departure labels predecessors, labelable-answers N source departure labels predecessors)
 
 pub demand-2-of-call : Demand2OfCall
 demand-2-of-call N source departure labels predecessors e =

@@ -7,7 +7,6 @@ ghost use Rattle.model.specs.NetworkRules.{networkCheck};
 ghost use Rattle.model.specs.Rules.{replied, written};
 ghost use Rattle.townfile.specs.Load.{counts, LongEnough, networkAt};
 ghost use Rattle.townfile.specs.Lent.{lentTables, tablesIn};
-ghost use Rattle.labelling.specs.Labels.{outcomeOf, labelsAnswer, labelsAfter, predecessorsAfter};
 ghost use Rattle.putting.specs.code.Printed.{Printed};
 ghost use Rattle.printing.specs.Answer.{textOf, tableText, networkAnswer, townAnswer, arrivalsText};
 ghost use Rattle.printing.specs.code.Tables.{TableFits};
@@ -16,7 +15,7 @@ use crate::question::question_in;
 use crate::table::put_table;
 use crate::table::refuse;
 use labelling::labels::Labelled;
-use labelling::labels::labels;
+use labelling::own::labels_within;
 use loading::load::Loaded;
 use loading::load::load;
 use model::limit::MAX_ARCS;
@@ -25,43 +24,6 @@ use model::limit::MAX_JUNCTIONS;
 use model::tick::Tick;
 use refusals::refusal::Refusal;
 use townfile::limit::MAX_TEXT;
-
-// Lends the first entries of both buffers to Labels, one for each junction.
-fn label_parts(
-    junctions: u32,
-    fences: &[u32],
-    tails: &[u16],
-    heads: &[u16],
-    lengths: &[u32],
-    speeds: &[u8],
-    source: u32,
-    departure: u32,
-    earliest: &mut [u32],
-    predecessors: &mut [u16],
-) -> Labelled
-    requires { ⌜ junctions ≤ length (now earliest) ⌝ }
-    requires { ⌜ junctions ≤ length (now predecessors) ⌝ }
-    ensures answer { λ r. ⌜ outcomeOf r ≡
-        labelsAnswer (lentNetwork junctions fences tails heads lengths speeds) source departure (take junctions (now (earliest .entry))) (take junctions (now (predecessors .entry))) ⌝ }
-    ensures labels { λ _. ⌜ take junctions (now (earliest .exit)) ≡
-        labelsAfter (lentNetwork junctions fences tails heads lengths speeds) source departure (take junctions (now (earliest .entry))) (take junctions (now (predecessors .entry))) ⌝ }
-    ensures predecessors { λ _. ⌜ take junctions (now (predecessors .exit)) ≡
-        predecessorsAfter (lentNetwork junctions fences tails heads lengths speeds) source departure (take junctions (now (earliest .entry))) (take junctions (now (predecessors .entry))) ⌝ }
-{
-    let count = junctions as usize;
-    labels(
-        junctions,
-        fences,
-        tails,
-        heads,
-        lengths,
-        speeds,
-        source,
-        Tick { number: departure },
-        &mut earliest[..count],
-        &mut predecessors[..count],
-    )
-}
 
 fn put_parts(
     output: &mut [u8; 4096],
@@ -95,7 +57,7 @@ fn network_arrivals(
 {
     let mut earliest = [0u32; MAX_JUNCTIONS];
     let mut predecessors = [0u16; MAX_JUNCTIONS];
-    match label_parts(
+    match labels_within(
         junctions,
         fences,
         tails,
@@ -103,7 +65,7 @@ fn network_arrivals(
         lengths,
         speeds,
         source,
-        departure,
+        Tick { number: departure },
         &mut earliest,
         &mut predecessors,
     ) {

@@ -4,8 +4,11 @@ use Prim.Native.Nat.{ℕ, _≤_, _<_}
 use mathlib.Core.Path.{_≡_, refl, sym, ap, _∙_}
 use mathlib.Core.List.{List, reverse}
 use mathlib.Core.Option.{Option, none}
+use mathlib.Core.Logic.{by-cases}
+use native.Mathlib.Decide.{decLt}
 use native.Mathlib.Omega.{arith}
-use lib.ListN.{length, getD, length-reverse}
+use lib.ListN.{length, getD, take, length-reverse}
+use lib.Seq.{length-take-le}
 use borrow.Author.Tests.{lt-ltb, le-ltb, eq-eqb, ne-eqb, lt-leb}
 use Rattle.model.specs.Ticks.{never, last}
 use Rattle.model.specs.Limits.{maxJunctions}
@@ -18,10 +21,11 @@ use Rattle.model.proofs.Networks.{accepted-sound}
 use Rattle.model.proofs.OnlyTables.{labels-certified}
 use Rattle.model.proofs.Routes.{allBack, route-reverses, whole}
 use Rattle.model.proofs.Trails.{Trail, here, back}
-use Rattle.model.proofs.Rules.{replies-kept, refused-before}
+use Rattle.model.proofs.Rules.{refused-before}
 use Rattle.checking.specs.Question.{questionRules, questionCheck, Taken}
-use Rattle.checking.proofs.QuestionRules.{kept-taken}
-use Rattle.labelling.specs.Labels.{labelsAnswer, labelsAfter, predecessorsAfter}
+use Rattle.checking.proofs.QuestionRules.{taken-kept}
+use Rattle.labelling.specs.Labels.{bufferRules, labelsAnswer, labelsAfter, predecessorsAfter}
+use Rattle.labelling.proofs.LabelRules.{answered}
 use Rattle.model.proofs.Entries.{getD-inside}
 use Rattle.routing.specs.code.Following.{backFrom, HasStep, Leads, Reached, Follows, no-junction, unreached, too-short, found}
 use Rattle.routing.specs.Route.{outcomeOf, arrivalOf, routeAnswer, routeArrival, arcsAfter}
@@ -34,31 +38,53 @@ Ends N source departure destination arcs outcome arrival arcs′ =
     (outcome ≡ routeAnswer N source departure destination arcs)
     × ((arrival ≡ routeArrival N source departure destination arcs) × (arcs′ ≡ arcsAfter N source departure destination arcs))
 
--- The tables have room for as many junctions as a network may have.
-pub count-refuses : (N : Network) (source departure destination : ℕ) (arcs : List ℕ) → maxJunctions < N .junctions → Ends N source departure destination arcs (refused 1) none arcs
-unfolding routeAnswer firstBroken
-count-refuses N source departure destination arcs many = rw (lt-ltb 0 (N .junctions) (omega arith), lt-leb (N .junctions) maxJunctions many) (refl, (refl, refl))
-
 -- ---- The call of Labels
 
--- What Labels comes to where the buffers have the right length: it refuses what the question's rules refuse, or writes the tables.
+-- What Labels comes to in tables that have room for every network: it refuses what the question's rules refuse, or writes the tables.
 pub record LabelsCalled (N : Network) (source departure : ℕ) (outcome : Outcome (Unit {0})) (labels predecessors : List ℕ) : Type 0 where
-  pub as-question : outcome ≡ questionCheck N source departure
+  pub refuses : {number : ℕ} → outcome ≡ refused number → questionCheck N source departure ≡ refused number
+  pub taken : outcome ≡ replied tt → Taken N source departure
   pub labels-are : outcome ≡ replied tt → labels ≡ labelsOf (netOf N) source departure
   pub predecessors-are : outcome ≡ replied tt → predecessors ≡ predecessorsOf (netOf N) source departure
 
--- By its contract; the tables are then read where they stand after it.
-pub labels-called : (N : Network) (source departure : ℕ) (labels predecessors : List ℕ) → length labels ≡ N .junctions → length predecessors ≡ N .junctions →
-    {outcome : Outcome (Unit {0})} {labels′ predecessors′ : List ℕ} →
-    (outcome ≡ labelsAnswer N source departure labels predecessors)
-    × ((labels′ ≡ labelsAfter N source departure labels predecessors) × (predecessors′ ≡ predecessorsAfter N source departure labels predecessors)) →
-    {labels″ predecessors″ : List ℕ} → labels″ ≡ labels′ → predecessors″ ≡ predecessors′ → LabelsCalled N source departure outcome labels″ predecessors″
-unfolding labelsAnswer questionCheck firstBroken
-labels-called N source departure labels predecessors labels-long predecessors-long ends l p = record {
-  as-question = ends .0 ∙ rw (eq-eqb (length labels) (N .junctions) labels-long, eq-eqb (length predecessors) (N .junctions) predecessors-long);
-  labels-are = λ wrote. l ∙ rw (← ends .0, wrote) at (ends .1 .0);
-  predecessors-are = λ wrote. p ∙ rw (← ends .0, wrote) at (ends .1 .1);
-}
+module _ (N : Network) (source departure : ℕ) where
+  -- A count for which they have no room is refused by the first rule.
+  many-refused : maxJunctions < N .junctions → questionCheck N source departure ≡ refused 1
+  unfolding questionCheck firstBroken
+  many-refused many = rw (lt-ltb 0 (N .junctions) (omega arith), lt-leb (N .junctions) maxJunctions many)
+
+  module _ (labels predecessors : List ℕ) where
+    refused-alike : {number : ℕ} → questionCheck N source departure ≡ refused number → labelsAnswer N source departure labels predecessors ≡ refused number
+    unfolding labelsAnswer questionCheck
+    refused-alike {number} e = refused-before (questionRules N source departure) (bufferRules N labels predecessors) tt tt number e
+
+    long-alike : length labels ≡ N .junctions → length predecessors ≡ N .junctions → labelsAnswer N source departure labels predecessors ≡ questionCheck N source departure
+    unfolding labelsAnswer questionCheck firstBroken
+    long-alike labels-long predecessors-long =
+        rw (eq-eqb (length labels) (N .junctions) labels-long, eq-eqb (length predecessors) (N .junctions) predecessors-long)
+
+  -- By its contract.
+  pub labels-called : (labels predecessors : List ℕ) → maxJunctions ≤ length labels → maxJunctions ≤ length predecessors →
+      {outcome : Outcome (Unit {0})} {labels′ predecessors′ : List ℕ} →
+      (outcome ≡ labelsAnswer N source departure (take (N .junctions) labels) (take (N .junctions) predecessors))
+      × ((labels′ ≡ labelsAfter N source departure (take (N .junctions) labels) (take (N .junctions) predecessors))
+      × (predecessors′ ≡ predecessorsAfter N source departure (take (N .junctions) labels) (take (N .junctions) predecessors))) →
+      LabelsCalled N source departure outcome labels′ predecessors′
+  labels-called labels predecessors labels-room predecessors-room (answers, (labels-end, predecessors-end)) =
+      let l = take (N .junctions) labels in
+      let p = take (N .junctions) predecessors in
+      record {
+        refuses = λ e.
+            by-cases (decLt maxJunctions (N .junctions))
+            (λ many. let first = many-refused many in first ∙ sym (refused-alike l p first) ∙ sym answers ∙ e)
+            (λ few.
+            let labels-long = length-take-le (N .junctions) labels (omega arith) in
+            let predecessors-long = length-take-le (N .junctions) predecessors (omega arith) in
+            sym (long-alike l p labels-long predecessors-long) ∙ sym answers ∙ e);
+        taken = λ wrote. answered N source departure l p (sym answers ∙ wrote) .taken;
+        labels-are = λ wrote. rw (← answers, wrote) at labels-end;
+        predecessors-are = λ wrote. rw (← answers, wrote) at predecessors-end;
+      }
 
 -- ---- Following them
 
@@ -76,17 +102,15 @@ module _ {N : Network} {source departure : ℕ} {outcome : Outcome (Unit {0})} {
   unfolding routeAnswer questionCheck
   labels-refuses {number} refuses destination arcs =
       let count = length (route N source departure destination arcs) in
-      let first : questionCheck N source departure ≡ refused number = sym (t .as-question) ∙ refuses in
-      let answer = refused-before (questionRules N source departure) (own N source departure destination arcs) tt count number first in
+      let answer = refused-before (questionRules N source departure) (own N source departure destination arcs) tt count number (t .refuses refuses) in
       (sym answer, (rw answer, rw answer))
 
   module _ (wrote : outcome ≡ replied tt) where
-    kept : AllKept (questionRules N source departure)
-    unfolding questionCheck
-    kept = replies-kept (questionRules N source departure) tt tt (sym (t .as-question) ∙ wrote)
+    pub taken : Taken N source departure
+    taken = t .taken wrote
 
-    taken : Taken N source departure
-    taken = kept-taken N source departure kept
+    kept : AllKept (questionRules N source departure)
+    kept = taken-kept N source departure taken
 
     in-time : departure ≤ last
     in-time = omega (arith, taken .departure-below)

@@ -9,7 +9,7 @@ ghost use Rattle.model.specs.Lent.{lentNetwork};
 ghost use Rattle.routing.specs.code.Following.{backFrom, HasStep, StepIs, Leads, Reached, Follows};
 ghost use Rattle.routing.specs.Route.{outcomeOf, arrivalOf, routeAnswer, routeArrival, arcsAfter};
 use labelling::labels::Labelled;
-use labelling::labels::labels;
+use labelling::own::labels_within;
 use model::label::NO_ARC;
 use model::label::UNREACHED;
 use model::limit::MAX_JUNCTIONS;
@@ -110,8 +110,7 @@ fn follow(
     }
 }
 
-// The labels are reckoned once, into tables of the function's own. These have room for as many junctions as a network may have; a
-// greater count is refused by the first rule.
+// The labels are reckoned once, into tables of the function's own. These have room for as many junctions as a network may have.
 pub fn route(
     junctions: u32,
     fences: &[u32],
@@ -128,13 +127,9 @@ pub fn route(
     ensures arrival { λ r. ⌜ arrivalOf r ≡ routeArrival (lentNetwork junctions fences tails heads lengths speeds) source (departure .number) destination (now (arcs .entry)) ⌝ }
     ensures arcs { λ _. ⌜ now (arcs .exit) ≡ arcsAfter (lentNetwork junctions fences tails heads lengths speeds) source (departure .number) destination (now (arcs .entry)) ⌝ }
 {
-    let n = junctions as usize;
-    if MAX_JUNCTIONS < n {
-        return Routed::Refused(Refusal::JunctionCount);
-    }
     let mut earliest = [UNREACHED; MAX_JUNCTIONS];
     let mut predecessors = [NO_ARC; MAX_JUNCTIONS];
-    if let Labelled::Refused(refusal) = labels(
+    if let Labelled::Refused(refusal) = labels_within(
         junctions,
         fences,
         tails,
@@ -143,11 +138,12 @@ pub fn route(
         speeds,
         source,
         departure,
-        &mut earliest[..n],
-        &mut predecessors[..n],
+        &mut earliest,
+        &mut predecessors,
     ) {
         return Routed::Refused(refusal);
     }
+    let n = junctions as usize;
     follow(
         tails,
         &earliest[..n],

@@ -19,7 +19,7 @@ use Rattle.printing.proofs.arrivals.network_arrivals.Tie as tie
 abbrev N : tie.Start → Network
 N s = network (s .args .junctions) (now (s .args .fences)) (now (s .args .tails)) (now (s .args .heads)) (now (s .args .lengths)) (now (s .args .speeds))
 
-abbrev begun : tie.After-label-parts → tie.Start
+abbrev begun : tie.After-labels-within → tie.Start
 begun c = c .before .before .before .before .before .before .before .before
 
 few : (s : tie.Start) → s .args .junctions ≤ 200
@@ -32,28 +32,25 @@ part s = take (s .args .junctions) (replicate 200 0)
 part-long : (s : tie.Start) → length (part s) ≡ s .args .junctions
 part-long s = length-take-le (s .args .junctions) (replicate 200 0) (few s)
 
-is-written : (c : tie.After-label-parts) → c .label-parts .result ≡ Written → replied tt ≡ labelsAnswer (N (begun c)) (begun c .args .source) (begun c .args .departure) (part (begun c)) (part (begun c))
-is-written c told = ap outcomeOf (sym told) ∙ c .label-parts .ensures .0
+is-written : (c : tie.After-labels-within) → c .labels-within .result ≡ Written → replied tt ≡ labelsAnswer (N (begun c)) (begun c .args .source) (begun c .args .departure) (part (begun c)) (part (begun c))
+is-written c told = ap outcomeOf (sym told) ∙ c .labels-within .ensures .0
 
-labels-are : (c : tie.After-label-parts) → c .label-parts .result ≡ Written → take (begun c .args .junctions) (c .label-parts .last .1 .1 .1 .1 .1 .1 .1 .1 .0) ≡ labelsOf (netOf (N (begun c))) (begun c .args .source) (begun c .args .departure)
-labels-are c told = c .label-parts .ensures .1 .0 ∙ labels-written (N (begun c)) _ _ (begun c .pre) (part (begun c)) (part (begun c)) (part-long (begun c)) (part-long (begun c)) (is-written c told)
+labels-are : (c : tie.After-labels-within) → c .labels-within .result ≡ Written → take (begun c .args .junctions) (c .labels-within .last .1 .1 .1 .1 .1 .1 .1 .1 .0) ≡ labelsOf (netOf (N (begun c))) (begun c .args .source) (begun c .args .departure)
+labels-are c told = c .labels-within .ensures .1 .0 ∙ labels-written (N (begun c)) _ _ (begun c .pre) (part (begun c)) (part (begun c)) (part-long (begun c)) (part-long (begun c)) (is-written c told)
 
-predecessors-are : (c : tie.After-label-parts) → c .label-parts .result ≡ Written → take (begun c .args .junctions) (c .label-parts .last .1 .1 .1 .1 .1 .1 .1 .1 .1 .0) ≡ predecessorsOf (netOf (N (begun c))) (begun c .args .source) (begun c .args .departure)
-predecessors-are c told = c .label-parts .ensures .1 .1 ∙ predecessors-written (N (begun c)) _ _ (begun c .pre) (part (begun c)) (part (begun c)) (part-long (begun c)) (part-long (begun c)) (is-written c told)
-
-label-parts-requires : tie.Need-label-parts-requires
-label-parts-requires c κs = let start = c .before .before .before .before .before .before .before in (few start, few start)
+predecessors-are : (c : tie.After-labels-within) → c .labels-within .result ≡ Written → take (begun c .args .junctions) (c .labels-within .last .1 .1 .1 .1 .1 .1 .1 .1 .1 .0) ≡ predecessorsOf (netOf (N (begun c))) (begun c .args .source) (begun c .args .departure)
+predecessors-are c told = c .labels-within .ensures .1 .1 ∙ predecessors-written (N (begun c)) _ _ (begun c .pre) (part (begun c)) (part (begun c)) (part-long (begun c)) (part-long (begun c)) (is-written c told)
 
 put-parts-requires : tie.Need-put-parts-requires
 put-parts-requires c κs =
     let called = c .before .before .before .before .before .before .before in
-    (omega (arith, few (begun called), called .label-parts .kept .1 .1 .1 .1 .1 .1 .1 .1 .0), (omega (arith, few (begun called), called .label-parts .kept .1 .1 .1 .1 .1 .1 .1 .1 .1 .0), table-fits-too (labels-are called (c .before .before .before .enum-told .given .1)) (predecessors-are called (c .before .before .before .enum-told .given .1)) (table-fits (N (begun called)) _ _ (begun called .pre))))
+    (omega (arith, few (begun called), called .labels-within .kept .1 .1 .1 .1 .1 .1 .1 .1 .0), (omega (arith, few (begun called), called .labels-within .kept .1 .1 .1 .1 .1 .1 .1 .1 .1 .0), table-fits-too (labels-are called (c .before .before .before .enum-told .given .1)) (predecessors-are called (c .before .before .before .enum-told .given .1)) (table-fits (N (begun called)) _ _ (begun called .pre))))
 
 returns : tie.Need-returns
 returns c =
     let called = c .before .before .before .before .before .before .before in
     let start = begun called in
-    rw (answer-refused (N start) _ _ (start .pre) _ _ (part-long start) (part-long start) (ap outcomeOf (sym (c .before .before .before .refusal .given .1)) ∙ called .label-parts .ensures .0)) (c .refuse .ensures)
+    rw (answer-refused (N start) _ _ (start .pre) _ _ (part-long start) (part-long start) (ap outcomeOf (sym (c .before .before .before .refusal .given .1)) ∙ called .labels-within .ensures .0)) (c .refuse .ensures)
 
 returns-2 : tie.Need-returns-2
 returns-2 c =
@@ -68,7 +65,7 @@ network-arrivals-spec =
     (tie.spec
     (λ c. search needs)
     (λ c. search needs)
-    label-parts-requires
+    (λ c κs. search needs)
     (λ c. search needs)
     (λ c κs. search needs)
     (λ c. search needs)

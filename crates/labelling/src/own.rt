@@ -1,0 +1,51 @@
+// Labels into buffers of one's own, which have room for every network: the first entries of each are lent, one for each junction.
+ghost use mathlib.Core.Path.{_≡_};
+ghost use Prim.Native.Nat.{min};
+ghost use lib.ListN.{take};
+ghost use Rattle.model.specs.Lent.{lentNetwork};
+ghost use Rattle.labelling.specs.Labels.{outcomeOf, labelsAnswer, labelsAfter, predecessorsAfter};
+use crate::labels::Labelled;
+use model::tick::Tick;
+
+fn lesser(a: usize, b: usize) -> usize
+    ensures { λ r. ⌜ r ≡ min a b ⌝ }
+{
+    if a < b { a } else { b }
+}
+
+// A buffer that is shorter than the junction count is lent whole, and refused.
+pub fn labels_within(
+    junctions: u32,
+    fences: &[u32],
+    tails: &[u16],
+    heads: &[u16],
+    lengths: &[u32],
+    speeds: &[u8],
+    source: u32,
+    departure: Tick,
+    labels: &mut [u32],
+    predecessors: &mut [u16],
+) -> Labelled
+    ensures answer { λ r. ⌜ outcomeOf r ≡ labelsAnswer (lentNetwork junctions fences tails heads lengths speeds) source (departure .number)
+        (take junctions (now (labels .entry))) (take junctions (now (predecessors .entry))) ⌝ }
+    ensures labels { λ _. ⌜ take junctions (now (labels .exit)) ≡ labelsAfter (lentNetwork junctions fences tails heads lengths speeds) source (departure .number)
+        (take junctions (now (labels .entry))) (take junctions (now (predecessors .entry))) ⌝ }
+    ensures predecessors { λ _. ⌜ take junctions (now (predecessors .exit)) ≡ predecessorsAfter (lentNetwork junctions fences tails heads lengths speeds) source (departure .number)
+        (take junctions (now (labels .entry))) (take junctions (now (predecessors .entry))) ⌝ }
+{
+    let count = junctions as usize;
+    let labelled = lesser(count, labels.len());
+    let preceded = lesser(count, predecessors.len());
+    crate::labels::labels(
+        junctions,
+        fences,
+        tails,
+        heads,
+        lengths,
+        speeds,
+        source,
+        departure,
+        &mut labels[..labelled],
+        &mut predecessors[..preceded],
+    )
+}

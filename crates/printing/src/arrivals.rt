@@ -90,7 +90,8 @@ fn loaded_arrivals(
 ) -> usize
     requires { ⌜ LongEnough (counts junctions intervals arcs) (tablesIn fences tails heads lengths speeds) ⌝ }
     requires { ⌜ networkCheck (networkAt (counts junctions intervals arcs) (tablesIn fences tails heads lengths speeds)) ≡ replied tt ⌝ }
-    ensures { λ r. ⌜ Printed (textOf (networkAnswer (networkAt (counts junctions intervals arcs) (lentTables fences tails heads lengths speeds)) source departure)) (now (output .entry)) (now (output .exit)) r ⌝ }
+    ensures { λ r. ⌜ Printed (textOf (networkAnswer (networkAt (counts junctions intervals arcs) (lentTables fences tails heads lengths speeds)) source departure))
+        (now (output .entry)) (now (output .exit)) r ⌝ }
 {
     let width = intervals as usize;
     let count = arcs as usize;

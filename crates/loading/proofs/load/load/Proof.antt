@@ -1,6 +1,6 @@
 -- `load::load`: the scan's refusal, then the room in the tables, then the tables are filled.
 use borrow.Author.Needs.{needs}
-use mathlib.Core.Path.{_≡_, refl, sym, ap, _∙_}
+use mathlib.Core.Path.{_≡_, sym, ap, _∙_}
 use mathlib.Core.Bool.{false}
 use denote.Ref.{now}
 use Rattle.townfile.specs.Grammar.{Bytes}

@@ -32,32 +32,51 @@ part s = take (s .args .junctions) (replicate 200 0)
 part-long : (s : tie.Start) → length (part s) ≡ s .args .junctions
 part-long s = length-take-le (s .args .junctions) (replicate 200 0) (few s)
 
-is-written : (c : tie.After-labels-within) → c .labels-within .result ≡ Written → replied tt ≡ labelsAnswer (N (begun c)) (begun c .args .source) (begun c .args .departure) (part (begun c)) (part (begun c))
-is-written c told = ap outcomeOf (sym told) ∙ c .labels-within .ensures .0
+-- what the call left in the first entries of both buffers
+abbrev labels : tie.After-labels-within → List ℕ
+labels c = take (begun c .args .junctions) (c .labels-within .last .1 .1 .1 .1 .1 .1 .1 .1 .0)
 
-labels-are : (c : tie.After-labels-within) → c .labels-within .result ≡ Written → take (begun c .args .junctions) (c .labels-within .last .1 .1 .1 .1 .1 .1 .1 .1 .0) ≡ labelsOf (netOf (N (begun c))) (begun c .args .source) (begun c .args .departure)
-labels-are c told = c .labels-within .ensures .1 .0 ∙ labels-written (N (begun c)) _ _ (begun c .pre) (part (begun c)) (part (begun c)) (part-long (begun c)) (part-long (begun c)) (is-written c told)
+abbrev predecessors : tie.After-labels-within → List ℕ
+predecessors c = take (begun c .args .junctions) (c .labels-within .last .1 .1 .1 .1 .1 .1 .1 .1 .1 .0)
 
-predecessors-are : (c : tie.After-labels-within) → c .labels-within .result ≡ Written → take (begun c .args .junctions) (c .labels-within .last .1 .1 .1 .1 .1 .1 .1 .1 .1 .0) ≡ predecessorsOf (netOf (N (begun c))) (begun c .args .source) (begun c .args .departure)
-predecessors-are c told = c .labels-within .ensures .1 .1 ∙ predecessors-written (N (begun c)) _ _ (begun c .pre) (part (begun c)) (part (begun c)) (part-long (begun c)) (part-long (begun c)) (is-written c told)
+-- Where Labels has written
+module _ (c : tie.After-labels-within) (told : c .labels-within .result ≡ Written) where
+  abbrev s : tie.Start
+  s = begun c
+
+  is-written : replied tt ≡ labelsAnswer (N s) (s .args .source) (s .args .departure) (part s) (part s)
+  is-written = ap outcomeOf (sym told) ∙ c .labels-within .ensures .0
+
+  labels-are : labels c ≡ labelsOf (netOf (N s)) (s .args .source) (s .args .departure)
+  labels-are = c .labels-within .ensures .1 .0 ∙ labels-written (N s) _ _ (s .pre) (part s) (part s) (part-long s) (part-long s) is-written
+
+  predecessors-are : predecessors c ≡ predecessorsOf (netOf (N s)) (s .args .source) (s .args .departure)
+  predecessors-are = c .labels-within .ensures .1 .1 ∙ predecessors-written (N s) _ _ (s .pre) (part s) (part s) (part-long s) (part-long s) is-written
 
 put-parts-requires : tie.Need-put-parts-requires
 put-parts-requires c κs =
     let called = c .before .before .before .before .before .before .before in
-    (omega (arith, few (begun called), called .labels-within .kept .1 .1 .1 .1 .1 .1 .1 .1 .0), (omega (arith, few (begun called), called .labels-within .kept .1 .1 .1 .1 .1 .1 .1 .1 .1 .0), table-fits-too (labels-are called (c .before .before .before .enum-told .given .1)) (predecessors-are called (c .before .before .before .enum-told .given .1)) (table-fits (N (begun called)) _ _ (begun called .pre))))
+    let told = c .before .before .before .enum-told .given .1 in
+    let kept = called .labels-within .kept .1 .1 .1 .1 .1 .1 .1 .1 in
+    let fits = table-fits (N (begun called)) _ _ (begun called .pre) in (
+      omega (arith, few (begun called), kept .0),
+      (omega (arith, few (begun called), kept .1 .0), table-fits-too (labels-are called told) (predecessors-are called told) fits),
+    )
 
 returns : tie.Need-returns
 returns c =
     let called = c .before .before .before .before .before .before .before in
     let start = begun called in
-    rw (answer-refused (N start) _ _ (start .pre) _ _ (part-long start) (part-long start) (ap outcomeOf (sym (c .before .before .before .refusal .given .1)) ∙ called .labels-within .ensures .0)) (c .refuse .ensures)
+    let refused = ap outcomeOf (sym (c .before .before .before .refusal .given .1)) ∙ called .labels-within .ensures .0 in
+    rw (answer-refused (N start) _ _ (start .pre) _ _ (part-long start) (part-long start) refused) (c .refuse .ensures)
 
 returns-2 : tie.Need-returns-2
 returns-2 c =
     let called = c .before .before .before .before .before .before .before .before in
     let start = begun called in
     let told = c .before .before .before .before .enum-told .given .1 in
-    rw (answer-written (N start) _ _ (start .pre) _ _ (part-long start) (part-long start) (is-written called told)) (printed-too (labels-are called told) (predecessors-are called told) (c .put-parts .ensures))
+    rw (answer-written (N start) _ _ (start .pre) _ _ (part-long start) (part-long start) (is-written called told))
+    (printed-too (labels-are called told) (predecessors-are called told) (c .put-parts .ensures))
 
 pub network-arrivals-spec : {M : Type 1} → statement M
 network-arrivals-spec =

@@ -1,7 +1,6 @@
 -- `route::count_arcs` counts the arcs of the way back: at each turn those counted and those left add up to all (`Counting`).
-use Prim.Native.Nat.{ℕ, _-_, _<_}
+use Prim.Native.Nat.{_-_}
 use native.Mathlib.Omega.{arith}
-use mathlib.Core.List.{List}
 use lib.ListN.{length}
 use denote.Ref.{now}
 use Rattle.routing.specs.code.Following.{backFrom}

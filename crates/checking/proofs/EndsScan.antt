@@ -1,6 +1,7 @@
--- A scan of the arcs' ends, in two tables of one length: what the test says of the arcs that are left is what it says of all.
+-- A scan of the arcs' ends, in two tables of one length: what the test says of the arcs so far, and of those that are left, is what it
+-- says of all.
 use Prim.Native.Nat.{ℕ, suc, _+_, _<_, _≤_}
-use mathlib.Core.Path.{_≡_}
+use mathlib.Core.Path.{_≡_, refl, sym, ap, _∙_}
 use mathlib.Core.Bool.{Bool, true, false, _&&_}
 use mathlib.Core.List.{List}
 use native.Mathlib.Numerals.{add-one}
@@ -10,6 +11,14 @@ use lib.Seq.{drop-cons}
 use Rattle.model.specs.NetworkRules.{endsKeep}
 use Rattle.checking.specs.code.Ends.{arcEndsKeep}
 
+and-assoc : (a b c : Bool) → ((a && b) && c) ≡ (a && (b && c))
+and-assoc true b c = refl
+and-assoc false b c = refl
+
+and-true : (b : Bool) → (b && true) ≡ b
+and-true true = refl
+and-true false = refl
+
 module _ (junctions : ℕ) (tails heads : List ℕ) where
   abbrev all : Bool
   all = endsKeep junctions tails heads
@@ -17,21 +26,18 @@ module _ (junctions : ℕ) (tails heads : List ℕ) where
   abbrev from : ℕ → Bool
   from a = endsKeep junctions (drop a tails) (drop a heads)
 
-  module _ (a : ℕ) (so-far : from a ≡ all) where
+  module _ (kept : Bool) (a : ℕ) (so-far : (kept && from a) ≡ all) where
     module _ (same : length heads ≡ length tails) (inside : a < length tails) where
       abbrev arc : Bool
       arc = arcEndsKeep junctions (getD tails a 0) (getD heads a 0)
 
-      here : (arc && from (suc a)) ≡ all
+      here : from a ≡ (arc && from (suc a))
       unfolding endsKeep
-      here = rw (drop-cons tails a 0 inside, drop-cons heads a 0 (omega arith)) at so-far
+      here = rw (drop-cons tails a 0 inside, drop-cons heads a 0 (omega arith))
 
-      pub ends-fail : arc ≡ false → false ≡ all
-      ends-fail e = rw e at here
+      pub ends-go-on : {kept′ : Bool} → kept′ ≡ (kept && arc) → (kept′ && from (a + 1)) ≡ all
+      ends-go-on e = rw (e, add-one) (and-assoc kept arc (from (suc a)) ∙ ap (λ rest. kept && rest) (sym here) ∙ so-far)
 
-      pub ends-go-on : arc ≡ true → from (a + 1) ≡ all
-      ends-go-on e = rw add-one (rw e at here)
-
-    pub ends-end : length tails ≤ a → true ≡ all
+    pub ends-end : length tails ≤ a → kept ≡ all
     unfolding endsKeep
-    ends-end h = rw (drop-of-length-le tails h) at so-far
+    ends-end h = sym (and-true kept) ∙ rw (drop-of-length-le tails h) at so-far

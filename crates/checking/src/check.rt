@@ -1,5 +1,6 @@
 // The tests of the rules that are a network's alone. Each is the definition's own test, of the whole table.
 ghost use mathlib.Core.Path.{_≡_};
+ghost use mathlib.Core.Bool.{_&&_};
 ghost use Prim.Native.Nat.{_≤_};
 ghost use lib.ListN.{length};
 ghost use Rattle.model.specs.Limits.{maxArcs, maxIntervals};
@@ -34,30 +35,33 @@ pub(crate) fn tables_agree(
     speeds.len() == tails.len() * fences.len()
 }
 
+// Both hold. As a function it keeps a test free of branches.
+fn both(a: bool, b: bool) -> bool
+    ensures { λ r. ⌜ r ≡ (a && b) ⌝ }
+{
+    a && b
+}
+
 // The arc goes from a junction to another.
 fn arc_ends_keep(junctions: u32, tail: u16, head: u16) -> bool
     ensures { λ r. ⌜ r ≡ arcEndsKeep junctions tail head ⌝ }
 {
-    if junctions <= tail as u32 {
-        return false;
-    }
-    if junctions <= head as u32 {
-        return false;
-    }
-    tail != head
+    both(
+        both((tail as u32) < junctions, (head as u32) < junctions),
+        tail != head,
+    )
 }
 
-// So does every arc.
+// So does every arc. The scan goes on behind one that does not, so that the compiler can take many arcs at once.
 pub(crate) fn ends_keep(junctions: u32, tails: &[u16], heads: &[u16]) -> bool
     requires { ⌜ length (now heads) ≡ length (now tails) ⌝ }
     ensures { λ r. ⌜ r ≡ endsKeep junctions (now (tails .entry)) (now (heads .entry)) ⌝ }
 {
+    let mut kept = true;
     let mut a = 0;
     while a < tails.len() {
-        if !arc_ends_keep(junctions, tails[a], heads[a]) {
-            return false;
-        }
+        kept = both(kept, arc_ends_keep(junctions, tails[a], heads[a]));
         a += 1;
     }
-    true
+    kept
 }

@@ -1,8 +1,10 @@
 .PHONY: test prove run bench soak
 
-# Proves and builds the program arrivals, and asks it about the example towns.
+# Proves and builds the programs, and asks them about the example towns. rt check uses all processors; building alone would use one.
 run:
+	rt check arrivals sheet
 	programs/build arrivals
+	programs/build sheet
 	examples/run
 
 # The gate: prove everything from nothing, try the must-fail edits, run the programs and the tests.
@@ -26,4 +28,5 @@ soak:
 	tests/quietly rt staticlib exports
 	tests/quietly rt staticlib cabinet
 	tests/quietly programs/build arrivals
+	tests/quietly programs/build sheet
 	cargo run --release --offline --quiet --manifest-path compare/Cargo.toml --bin soak -- $(SEED) $(MINUTES)

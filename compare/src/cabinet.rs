@@ -70,6 +70,27 @@ mod exports {
             arc_count: usize,
         ) -> u32;
 
+        pub fn exports_sheet(
+            junctions: u32,
+            fences: *const u32,
+            fence_count: usize,
+            tails: *const u16,
+            tail_count: usize,
+            heads: *const u16,
+            head_count: usize,
+            lengths: *const u32,
+            length_count: usize,
+            speeds: *const u8,
+            speed_count: usize,
+            source: u32,
+            departures: *const u32,
+            departure_count: usize,
+            labels: *mut u32,
+            label_count: usize,
+            figures: *mut u32,
+            figure_count: usize,
+        ) -> u32;
+
         pub fn exports_load(
             text: *const u8,
             text_length: usize,
@@ -194,6 +215,31 @@ pub fn route(
         )
     };
     decoded(answer)
+}
+
+pub fn sheet(
+    network: &Network,
+    source: u32,
+    departures: &[u32],
+    labels: &mut [u32],
+    figures: &mut [u32],
+) -> Result<(), Refusal> {
+    // SAFETY: each pointer and length belong to one slice lent for the call,
+    // the last two for writing and to nobody else.
+    let answer = unsafe {
+        on_network!(
+            exports_sheet,
+            network,
+            source,
+            departures.as_ptr(),
+            departures.len(),
+            labels.as_mut_ptr(),
+            labels.len(),
+            figures.as_mut_ptr(),
+            figures.len(),
+        )
+    };
+    accepted(answer)
 }
 
 pub fn load(

@@ -1,5 +1,5 @@
 //! Comparisons of the verified library with the reference, and properties of
-//! it that document 01 demands, on random inputs.
+//! it that the papers demand, on random inputs.
 
 pub mod answers;
 pub mod cases;
@@ -27,19 +27,24 @@ pub struct Check {
     pub refuses: &'static [RangeInclusive<u32>],
 }
 
-pub const CHECKS: [&Check; 12] = [
+pub const CHECKS: [&Check; 17] = [
     &cases::NETWORK_CHECK,
     &cases::ARC_ARRIVAL,
     &cases::LABELS,
     &cases::ROUTE,
+    &cases::SHEET,
     &cases::LOAD,
     &cases::NAME,
     &cases::HOST_QUESTION,
     &cases::ARRIVALS,
+    &cases::SHEET_PROGRAM,
     &properties::NON_PASSING,
     &properties::ARC_BY_TICKS,
     &properties::LABELS_BY_WALKS,
     &properties::IMPROVEMENT,
+    &properties::SHEET_BY_LABELS,
+    &properties::SHEET_SHUFFLED,
+    &properties::SHEET_TWICE,
 ];
 
 /// What a case came to, for counting.

@@ -1,4 +1,4 @@
-//! Document 01's operations twice: a reference written from the paper alone,
+//! The operations twice: a reference written from the customer's papers alone,
 //! and the verified library behind its C boundary. Everything else here feeds
 //! both with the same inputs and compares what they answer.
 

@@ -1,4 +1,4 @@
-//! One implementation of document 01 as a table of functions.
+//! One implementation of the operations as a table of functions.
 
 use crate::reference::{Counts, LoadRefusal, Network, Refusal};
 use crate::{cabinet, reference};
@@ -9,6 +9,7 @@ pub struct Operations {
     pub arc_arrival: fn(u32, u32, &[u32], &[u8]) -> Result<Option<u32>, Refusal>,
     pub labels: fn(&Network, u32, u32, &mut [u32], &mut [u16]) -> Result<(), Refusal>,
     pub route: fn(&Network, u32, u32, u32, &mut [u16]) -> Result<u32, Refusal>,
+    pub sheet: fn(&Network, u32, &[u32], &mut [u32], &mut [u32]) -> Result<(), Refusal>,
     pub load: fn(
         text: &[u8],
         fences: &mut [u32],
@@ -26,6 +27,7 @@ pub const REFERENCE: Operations = Operations {
     arc_arrival: reference::arc_arrival,
     labels: reference::labels,
     route: reference::route,
+    sheet: reference::sheet,
     load: reference::load,
     name: reference::name,
     host_question: reference::host_question,
@@ -36,6 +38,7 @@ pub const CABINET: Operations = Operations {
     arc_arrival: cabinet::arc_arrival,
     labels: cabinet::labels,
     route: cabinet::route,
+    sheet: cabinet::sheet,
     load: cabinet::load,
     name: cabinet::name,
     host_question: cabinet::host_question,

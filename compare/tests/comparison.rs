@@ -35,6 +35,11 @@ fn route() {
 }
 
 #[test]
+fn sheet() {
+    run(&cases::SHEET);
+}
+
+#[test]
 fn load() {
     run(&cases::LOAD);
 }
@@ -55,6 +60,11 @@ fn arrivals() {
 }
 
 #[test]
+fn sheet_program() {
+    run(&cases::SHEET_PROGRAM);
+}
+
+#[test]
 fn non_passing() {
     run(&properties::NON_PASSING);
 }
@@ -72,4 +82,19 @@ fn labels_by_walks() {
 #[test]
 fn improvement() {
     run(&properties::IMPROVEMENT);
+}
+
+#[test]
+fn sheet_by_labels() {
+    run(&properties::SHEET_BY_LABELS);
+}
+
+#[test]
+fn sheet_shuffled() {
+    run(&properties::SHEET_SHUFFLED);
+}
+
+#[test]
+fn sheet_twice() {
+    run(&properties::SHEET_TWICE);
 }

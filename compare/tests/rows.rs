@@ -1,6 +1,6 @@
-//! The reckonings that document 01 keeps, put to the library and the reference.
+//! The reckonings that document 01 keeps, alone and on a sheet, put to the library and the reference.
 
-use compare::comparison::program::{self, Run};
+use compare::comparison::program::{ARRIVALS, Run, SHEET};
 use compare::inputs::examples::{TABLE_1, TOWN, TOWN_TEXT};
 use compare::operations::{CABINET, Operations, REFERENCE};
 use compare::reference::limits::{NO_ARC, REFUSED};
@@ -78,8 +78,29 @@ fn the_town() {
 
 #[test]
 fn the_program() {
-    let run = program::run(format!("QU 0 10\n{TOWN_TEXT}").as_bytes());
+    let run = ARRIVALS.run(format!("QU 0 10\n{TOWN_TEXT}").as_bytes());
     let expected = "junction arrival arc\n0 10 -\n1 60 0\n2 100 1\n";
+    assert_eq!(run, Run::ended(expected, 0));
+}
+
+#[test]
+fn the_sheet() {
+    for operations in BOTH {
+        let mut labels = [7; 20];
+        let mut figures = [7; 20];
+        let departures = [27_000, 9_000, 24_000, 21_000];
+        let reply = (operations.sheet)(&TABLE_1, 0, &departures, &mut labels, &mut figures);
+        assert_eq!(reply, Ok(()));
+        assert_eq!(labels[5..10], [9_000, 18_000, 26_000, 27_000, 34_000]);
+        assert_eq!(
+            [labels[4], labels[14], labels[19]],
+            [49_000, 48_000, 47_000]
+        );
+        assert_eq!(figures[..4], [4, 0, 0, 0]);
+        assert_eq!(figures[16..], [4, 22_000, 26_000, 97_000]);
+    }
+    let run = SHEET.run(format!("QU 0 10 10\n{TOWN_TEXT}").as_bytes());
+    let expected = "0 2 0 0 0\n1 2 50 50 100\n2 2 90 90 180\n";
     assert_eq!(run, Run::ended(expected, 0));
 }
 

@@ -3,12 +3,12 @@
 use std::fmt::Debug;
 
 use super::lent::Lent;
-use super::program::{self, Run};
+use super::program::{Program, Run};
 use super::{Difference, Outcome};
 use crate::inputs::OwnedNetwork;
 use crate::operations::{CABINET, Operations, REFERENCE};
-use crate::reference::limits::REFUSED;
-use crate::reference::{self, Refusal};
+use crate::reference::Refusal;
+use crate::reference::limits::{FIGURES, REFUSED};
 
 /// What an operation replied and what the lent buffers then hold.
 #[derive(Debug, PartialEq)]
@@ -136,6 +136,37 @@ pub fn route(
     Ok(Outcome::of(&reply))
 }
 
+pub fn sheet(
+    network: &OwnedNetwork,
+    source: u32,
+    departures: &[u32],
+    (label_count, figure_count): (usize, usize),
+) -> Result<Outcome, Difference> {
+    let question = format!(
+        "sheet from {source} at {departures:?}, buffers of {label_count} and {figure_count}"
+    );
+    let input = || shown(network);
+    let reply = compare(&question, input, |operations| {
+        let mut labels = Lent::new(label_count);
+        let mut figures = Lent::new(figure_count);
+        let reply = (operations.sheet)(
+            &network.lent(),
+            source,
+            departures,
+            labels.part(),
+            figures.part(),
+        );
+        let junctions = reply.map_or(0, |()| network.junctions as usize);
+        Answer {
+            reply,
+            kept: labels.kept_after(departures.len() * junctions)
+                && figures.kept_after(FIGURES * junctions),
+            buffers: (labels, figures),
+        }
+    })?;
+    Ok(Outcome::of(&reply))
+}
+
 /// The lengths of the tables lent to Load.
 #[derive(Clone, Copy, Debug)]
 pub struct TableLengths {
@@ -220,18 +251,18 @@ pub fn host_question(
     })
 }
 
-/// Compares what the program prints with what the reference would, and its exit
-/// status with 0 for a table and 1 for a refusal.
-pub fn arrivals(input: &[u8]) -> Result<Outcome, Difference> {
-    let printed = String::from_utf8_lossy(&reference::arrivals_text(input)).into_owned();
+/// Compares what a program prints with what the reference would, and its exit
+/// status with 0 for an answer and 1 for a refusal.
+pub fn program(program: &Program, input: &[u8]) -> Result<Outcome, Difference> {
+    let printed = String::from_utf8_lossy(&(program.reference)(input)).into_owned();
     let outcome = printed_outcome(&printed);
     let expected = Run::ended(&printed, i32::from(outcome != Outcome::Answered));
-    let found = program::run(input);
+    let found = program.run(input);
     if found == expected {
         return Ok(outcome);
     }
     Err(Difference {
-        question: "the program arrivals".to_owned(),
+        question: format!("the program {}", program.name),
         input: input.to_vec(),
         expected: format!("{expected:?}"),
         found: format!("{found:?}"),

@@ -1,14 +1,18 @@
 //! Random questions for each operation, many of them to be refused.
 
 use super::answers::{self, TableLengths};
+use super::program::{self, Program};
 use super::{Check, Difference, Outcome};
 use crate::inputs::damage::{damage_fences, damage_network, damage_text, replace_one};
-use crate::inputs::networks::{random_arc, random_arc_departure, random_departure, random_network};
-use crate::inputs::texts::{pad, random_town};
+use crate::inputs::networks::{
+    random_arc, random_arc_departure, random_departure, random_departures, random_network,
+};
+use crate::inputs::texts::{pad, question_line, random_town};
 use crate::inputs::{OwnedNetwork, Random};
 use crate::reference;
 use crate::reference::limits::{
-    DAY, LAST_TICK, MAX_ARCS, MAX_INTERVALS, MAX_LENGTH, MAX_SPEED, MAX_TEXT,
+    DAY, FIGURES, LAST_TICK, MAX_ARCS, MAX_DEPARTURES, MAX_INTERVALS, MAX_LENGTH, MAX_SPEED,
+    MAX_TEXT,
 };
 
 pub const NETWORK_CHECK: Check = Check {
@@ -43,6 +47,14 @@ pub const ROUTE: Check = Check {
     refuses: &[1..=10, 12..=14],
 };
 
+pub const SHEET: Check = Check {
+    name: "sheet",
+    cases: 20_000,
+    run: sheet,
+    finds_nothing: false,
+    refuses: &[1..=10, 30..=31],
+};
+
 pub const LOAD: Check = Check {
     name: "load",
     cases: 30_000,
@@ -73,6 +85,14 @@ pub const ARRIVALS: Check = Check {
     run: arrivals,
     finds_nothing: false,
     refuses: &[9..=10, 20..=27],
+};
+
+pub const SHEET_PROGRAM: Check = Check {
+    name: "program sheet",
+    cases: 1_000,
+    run: sheet_program,
+    finds_nothing: false,
+    refuses: &[9..=10, 20..=27, 30..=30],
 };
 
 fn network_check(random: &mut Random) -> Result<Outcome, Difference> {
@@ -128,6 +148,21 @@ fn route(random: &mut Random) -> Result<Outcome, Difference> {
     answers::route(&network, (source, departure), destination, list)
 }
 
+fn sheet(random: &mut Random) -> Result<Outcome, Difference> {
+    let mut network = random_network(random);
+    let source = random_junction(random, &network);
+    let departures = random_list(random, &network);
+    let junctions = network.junctions as usize;
+    let mut buffers = (departures.len() * junctions, FIGURES * junctions);
+    if random.one_in(8) {
+        buffers = (near(random, buffers.0), near(random, buffers.1));
+    }
+    if random.one_in(4) {
+        damage_network(random, &mut network);
+    }
+    answers::sheet(&network, source, &departures, buffers)
+}
+
 fn load(random: &mut Random) -> Result<Outcome, Difference> {
     let (network, text) = random_damaged_town(random);
     let (intervals, arcs) = (network.fences.len(), network.arcs());
@@ -162,7 +197,25 @@ fn host_question(random: &mut Random) -> Result<Outcome, Difference> {
 fn arrivals(random: &mut Random) -> Result<Outcome, Difference> {
     let (network, text) = random_damaged_town(random);
     let (source, departure) = random_start(random, &network);
-    let mut question = format!("QU {source} {departure}\n").into_bytes();
+    let question = question_line(source, &[departure]);
+    program(random, &program::ARRIVALS, question, text)
+}
+
+fn sheet_program(random: &mut Random) -> Result<Outcome, Difference> {
+    let (network, text) = random_damaged_town(random);
+    let source = random_junction(random, &network);
+    let departures = random_list(random, &network);
+    let question = question_line(source, &departures);
+    program(random, &program::SHEET, question, text)
+}
+
+/// Asks a program, at times with a damaged line or with too many bytes.
+fn program(
+    random: &mut Random,
+    program: &Program,
+    mut question: Vec<u8>,
+    text: Vec<u8>,
+) -> Result<Outcome, Difference> {
     if random.one_in(8) {
         damage_text(random, &mut question);
     }
@@ -170,7 +223,7 @@ fn arrivals(random: &mut Random) -> Result<Outcome, Difference> {
     if random.one_in(8) {
         pad(&mut input, MAX_TEXT + random.index(2));
     }
-    answers::arrivals(&input)
+    answers::program(program, &input)
 }
 
 /// A town file, damaged more often than not, and the network it came from.
@@ -182,15 +235,32 @@ fn random_damaged_town(random: &mut Random) -> (OwnedNetwork, Vec<u8>) {
     (network, text)
 }
 
+/// Departures that no question has.
+const LATE: [u32; 4] = [DAY, DAY + 1, 9_999_999, u32::MAX];
+
 /// A source and a departure, at times beyond their limits.
 fn random_start(random: &mut Random, network: &OwnedNetwork) -> (u32, u32) {
     let source = random_junction(random, network);
     let departure = if random.one_in(16) {
-        random.pick(&[DAY, DAY + 1, 9_999_999, u32::MAX])
+        random.pick(&LATE)
     } else {
         random_departure(random, &network.fences)
     };
     (source, departure)
+}
+
+/// A sheet's departures, at times none, too many or one beyond its limit.
+fn random_list(random: &mut Random, network: &OwnedNetwork) -> Vec<u32> {
+    let count = if random.one_in(12) {
+        random.pick(&[0, MAX_DEPARTURES + 1, MAX_DEPARTURES + 2, 200, 3_000])
+    } else {
+        random.up_to_one_of(&[1, 8, MAX_DEPARTURES as u32]) as usize
+    };
+    let mut departures = random_departures(random, &network.fences, count);
+    if random.one_in(12) {
+        replace_one(random, &mut departures, &LATE);
+    }
+    departures
 }
 
 /// A junction, at times one that there is not.

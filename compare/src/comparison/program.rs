@@ -1,15 +1,34 @@
-//! The built program `arrivals`, through standard input, standard output and
-//! its exit status.
+//! The built programs, through standard input, standard output and their exit
+//! status.
 
 use std::env;
 use std::io::Write;
 use std::path::{Path, PathBuf};
 use std::process::{Command, Stdio};
 
-/// Where the program stands unless the environment's ARRIVALS says otherwise.
-const BUILT: &str = concat!(env!("CARGO_MANIFEST_DIR"), "/../target/bin/arrivals");
+use crate::reference;
 
-/// What the program printed, and its exit status; none where a signal ended it.
+pub struct Program {
+    pub name: &'static str,
+    /// What it should print.
+    pub(super) reference: fn(&[u8]) -> Vec<u8>,
+}
+
+pub const ARRIVALS: Program = Program {
+    name: "arrivals",
+    reference: reference::arrivals_text,
+};
+
+pub const SHEET: Program = Program {
+    name: "sheet",
+    reference: reference::sheet_text,
+};
+
+/// Where the programs stand, unless the environment names another for one, in
+/// the variable of its name in capitals.
+const BUILT: &str = concat!(env!("CARGO_MANIFEST_DIR"), "/../target/bin");
+
+/// What a program printed, and its exit status; none where a signal ended it.
 #[derive(Debug, PartialEq)]
 pub struct Run {
     pub printed: String,
@@ -26,16 +45,20 @@ impl Run {
     }
 }
 
-/// Runs the program on this input.
-pub fn run(input: &[u8]) -> Run {
-    let program = env::var_os("ARRIVALS").map_or_else(|| BUILT.into(), PathBuf::from);
-    let run = run_program(&program, input);
-    run.unwrap_or_else(|error| {
-        panic!(
-            "cannot run {}: {error}; build the program first, or set ARRIVALS",
-            program.display()
-        )
-    })
+impl Program {
+    /// Runs the program on this input.
+    pub fn run(&self, input: &[u8]) -> Run {
+        let variable = self.name.to_uppercase();
+        let built = || Path::new(BUILT).join(self.name);
+        let program = env::var_os(&variable).map_or_else(built, PathBuf::from);
+        let run = run_program(&program, input);
+        run.unwrap_or_else(|error| {
+            panic!(
+                "cannot run {}: {error}; build the program first, or set {variable}",
+                program.display()
+            )
+        })
+    }
 }
 
 fn run_program(program: &Path, input: &[u8]) -> std::io::Result<Run> {

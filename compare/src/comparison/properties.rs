@@ -1,6 +1,10 @@
 //! Properties of the library's own answers, reckoned without the reference:
 //! tick by tick and walk by walk, as document 01 defines arrivals and labels.
 
+mod sheets;
+
+pub use sheets::{SHEET_BY_LABELS, SHEET_SHUFFLED, SHEET_TWICE};
+
 use super::answers::{shown, shown_arc};
 use super::{Check, Difference, Outcome};
 use crate::cabinet;

@@ -173,6 +173,21 @@ pub fn random_departure(random: &mut Random, fences: &[u32]) -> u32 {
     departure.min(DAY - 1)
 }
 
+/// Departures below the day in any order, some of them more than once.
+pub fn random_departures(random: &mut Random, fences: &[u32], count: usize) -> Vec<u32> {
+    let repeats = random.pick(&[2, 5, 1_000]);
+    let mut departures = Vec::with_capacity(count);
+    while departures.len() < count {
+        let departure = if !departures.is_empty() && random.one_in(repeats) {
+            random.pick(&departures)
+        } else {
+            random_departure(random, fences)
+        };
+        departures.push(departure);
+    }
+    departures
+}
+
 /// A departure up to the last tick, as Arc arrival takes it.
 pub fn random_arc_departure(random: &mut Random, fences: &[u32]) -> u32 {
     match random.below(3) {

@@ -42,6 +42,12 @@ impl Random {
         choices[self.index(choices.len())]
     }
 
+    pub fn shuffle<T>(&mut self, list: &mut [T]) {
+        for place in (1..list.len()).rev() {
+            list.swap(place, self.index(place + 1));
+        }
+    }
+
     /// A number from 1 to one of the bounds, often the bound itself.
     pub fn up_to_one_of(&mut self, bounds: &[u32]) -> u32 {
         let bound = self.pick(bounds);

@@ -83,6 +83,13 @@ fn end_line<T: fmt::Display>(text: &mut String, numbers: &[T]) -> fmt::Result {
     writeln!(text)
 }
 
+/// A program's line before the town file.
+pub fn question_line(source: u32, departures: &[u32]) -> Vec<u8> {
+    let mut line = format!("QU {source}");
+    end_line(&mut line, departures).expect("a string takes every number");
+    line.into_bytes()
+}
+
 /// Adds comments at the end until the text has this size, if it can.
 pub fn pad(text: &mut Vec<u8>, size: usize) {
     const LONGEST: usize = MAX_LINE + 1;

@@ -3,7 +3,7 @@
 use super::grids::street_grid;
 use super::texts::{pad, town_text};
 use super::{OwnedNetwork, Random};
-use crate::reference::limits::{MAX_ARCS, MAX_INTERVALS, MAX_TEXT};
+use crate::reference::limits::{DAY, MAX_ARCS, MAX_DEPARTURES, MAX_INTERVALS, MAX_TEXT};
 
 pub struct Town {
     pub name: &'static str,
@@ -15,6 +15,12 @@ pub struct Town {
 /// A question from one corner of the grid to the opposite one, at 8 o'clock.
 pub const SOURCE: u32 = 0;
 pub const DEPARTURE: u32 = 8 * 36_000;
+
+/// As many as a sheet takes, a quarter of an hour apart.
+pub fn departures() -> Vec<u32> {
+    const STEP: u32 = DAY / MAX_DEPARTURES as u32;
+    (0..DAY).step_by(STEP as usize).collect()
+}
 
 impl Town {
     pub const NAMES: [&str; 4] = ["small", "middle", "large", "full"];

@@ -18,53 +18,71 @@ pub fn labels(
     let junctions = network.junctions as usize;
     let exact = labels.len() == junctions && predecessors.len() == junctions;
     Refusal::BUFFER_LENGTHS.unless(exact)?;
-    search(network, source, departure, labels, predecessors);
+    Search::new(network).run(source, departure, labels, predecessors);
     Ok(())
 }
 
 pub(super) fn check_start(junctions: u32, source: u32, departure: u32) -> Result<(), Refusal> {
-    Refusal::SOURCE.unless(source < junctions)?;
+    check_source(junctions, source)?;
+    check_departure(departure)
+}
+
+pub(super) fn check_source(junctions: u32, source: u32) -> Result<(), Refusal> {
+    Refusal::SOURCE.unless(source < junctions)
+}
+
+pub(super) fn check_departure(departure: u32) -> Result<(), Refusal> {
     Refusal::DEPARTURE.unless(departure < DAY)
 }
 
-/// Labels a checked network, settling junctions in the order of their labels.
-pub(super) fn search(
-    network: &Network,
-    source: u32,
-    departure: u32,
-    labels: &mut [u32],
-    predecessors: &mut [u16],
-) {
-    let arcs_out = ArcsOut::new(network);
-    labels.fill(UNREACHED);
-    predecessors.fill(NO_ARC);
-    labels[source as usize] = departure;
-    let mut queue = BinaryHeap::from([Reverse((departure, source as u16))]);
+/// A checked network, ready to be labelled from any source at any departure.
+pub(super) struct Search<'n> {
+    network: Network<'n>,
+    arcs_out: ArcsOut,
+}
 
-    while let Some(Reverse((tick, tail))) = queue.pop() {
-        if tick > labels[usize::from(tail)] {
-            continue; // an earlier arrival at the tail was settled before
+impl<'n> Search<'n> {
+    pub fn new(network: &Network<'n>) -> Self {
+        Self {
+            network: *network,
+            arcs_out: ArcsOut::new(network),
         }
-        let interval = interval_at(network.fences, tick);
-        for &arc in arcs_out.of(tail) {
-            let head = network.heads[arc];
-            let label = &mut labels[usize::from(head)];
-            let predecessor = &mut predecessors[usize::from(head)];
-            if *label <= tick {
-                continue; // settled before, since every arc takes a tick or more
+    }
+
+    /// Writes the labels and predecessors, settling junctions in the order of
+    /// their labels.
+    pub fn run(&self, source: u32, departure: u32, labels: &mut [u32], predecessors: &mut [u16]) {
+        let network = &self.network;
+        labels.fill(UNREACHED);
+        predecessors.fill(NO_ARC);
+        labels[source as usize] = departure;
+        let mut queue = BinaryHeap::from([Reverse((departure, source as u16))]);
+
+        while let Some(Reverse((tick, tail))) = queue.pop() {
+            if tick > labels[usize::from(tail)] {
+                continue; // an earlier arrival at the tail was settled before
             }
-            let length = network.lengths[arc];
-            let speeds = network.arc_speeds(arc);
-            let Some(arrival) = drive(tick, interval, length, network.fences, speeds) else {
-                continue;
-            };
-            if arrival < *label {
-                *label = arrival;
-                *predecessor = arc as u16;
-                queue.push(Reverse((arrival, head)));
-            } else if arrival == *label {
-                // All arcs that attain the label pass here before it is settled.
-                *predecessor = (*predecessor).min(arc as u16);
+            let interval = interval_at(network.fences, tick);
+            for &arc in self.arcs_out.of(tail) {
+                let head = network.heads[arc];
+                let label = &mut labels[usize::from(head)];
+                let predecessor = &mut predecessors[usize::from(head)];
+                if *label <= tick {
+                    continue; // settled before, since every arc takes a tick or more
+                }
+                let length = network.lengths[arc];
+                let speeds = network.arc_speeds(arc);
+                let Some(arrival) = drive(tick, interval, length, network.fences, speeds) else {
+                    continue;
+                };
+                if arrival < *label {
+                    *label = arrival;
+                    *predecessor = arc as u16;
+                    queue.push(Reverse((arrival, head)));
+                } else if arrival == *label {
+                    // All arcs that attain the label pass here before it is settled.
+                    *predecessor = (*predecessor).min(arc as u16);
+                }
             }
         }
     }

@@ -1,4 +1,4 @@
-//! The constants of document 01.
+//! The constants of documents 01 and 02.
 
 /// Ticks in a day; fences and departures of a question lie below it.
 pub const DAY: u32 = 864_000;
@@ -14,6 +14,11 @@ pub const MAX_ARCS: usize = 640;
 pub const MAX_LENGTH: u32 = 100_000;
 /// In km/h, which is spans per tick.
 pub const MAX_SPEED: u8 = 200;
+
+/// Departures on one sheet.
+pub const MAX_DEPARTURES: usize = 96;
+/// What a sheet tells of each junction.
+pub const FIGURES: usize = 4;
 
 /// In bytes.
 pub const MAX_TEXT: usize = 65_536;

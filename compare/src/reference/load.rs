@@ -207,14 +207,14 @@ impl<'t> Reader<'t> {
 }
 
 /// Takes a line with its line feed, or all that is left.
-fn take_line<'t>(text: &mut &'t [u8]) -> &'t [u8] {
+pub(super) fn take_line<'t>(text: &mut &'t [u8]) -> &'t [u8] {
     let start = *text;
     let length = text.skip_until(b'\n').expect("a slice can be read");
     &start[..length]
 }
 
 /// Takes the whole rest of a line as numbers, each after one space.
-fn take_numbers<'n>(mut fields: &[u8], numbers: &'n mut Vec<u32>) -> Option<&'n [u32]> {
+pub(super) fn take_numbers<'n>(mut fields: &[u8], numbers: &'n mut Vec<u32>) -> Option<&'n [u32]> {
     numbers.clear();
     while !fields.is_empty() {
         let (number, rest) = take_number(fields)?;
@@ -226,7 +226,7 @@ fn take_numbers<'n>(mut fields: &[u8], numbers: &'n mut Vec<u32>) -> Option<&'n 
 
 /// Takes a space and a number; returns the number and what stands after it.
 #[inline]
-pub(super) fn take_number(fields: &[u8]) -> Option<(u32, &[u8])> {
+fn take_number(fields: &[u8]) -> Option<(u32, &[u8])> {
     let [b' ', first @ b'0'..=b'9', rest @ ..] = fields else {
         return None;
     };

@@ -27,6 +27,8 @@ impl Refusal {
     pub const LIMITS: Self = Self(26);
     pub const MISSING: Self = Self(27);
     pub const TABLE_TOO_SHORT: Self = Self(28);
+    pub const DEPARTURE_COUNT: Self = Self(30);
+    pub const SHEET_LENGTHS: Self = Self(31);
 
     /// Refuses unless the condition holds.
     pub(super) fn unless(self, condition: bool) -> Result<(), Self> {

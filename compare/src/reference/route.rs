@@ -1,4 +1,4 @@
-use super::labels::{check_start, search};
+use super::labels::{Search, check_start};
 use super::limits::{NO_ARC, UNREACHED};
 use super::{Network, Refusal, network_check};
 
@@ -52,7 +52,7 @@ pub(super) fn reach(
     let destination = destination as usize;
     let mut labels = vec![UNREACHED; network.junctions as usize];
     let mut predecessors = vec![NO_ARC; network.junctions as usize];
-    search(network, source, departure, &mut labels, &mut predecessors);
+    Search::new(network).run(source, departure, &mut labels, &mut predecessors);
     let label = labels[destination];
     Refusal::UNREACHED.unless(label != UNREACHED)?;
     Ok(Reached {

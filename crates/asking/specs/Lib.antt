@@ -1,2 +1,4 @@
+pub mod Answers
 pub mod Line
+pub mod Question
 pub mod code

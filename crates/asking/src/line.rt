@@ -12,6 +12,9 @@ use fields::field::read_field;
 use townfile::mark::LINE_FEED;
 use townfile::mark::NONE;
 
+// `QU`, the mark of a program's question.
+pub const QUESTION: u16 = 0x5155;
+
 // How many numbers the line has, and the place behind its line feed.
 pub enum Asked {
     Numbers { count: usize, next: usize },

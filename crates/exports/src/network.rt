@@ -1,9 +1,10 @@
-// Network check, Arc arrival, Labels and Route, over lent tables.
+// Network check, Arc arrival, Labels, Sheet and Route, over lent tables.
 ghost use mathlib.Core.Path.{_≡_};
 ghost use Rattle.model.specs.NetworkRules.{networkCheck};
 ghost use Rattle.model.specs.Lent.{lentNetwork};
 ghost use Rattle.driving.specs.ArcArrival.{arcArrival};
 ghost use Rattle.labelling.specs.Labels.{labelsAnswer, labelsAfter, predecessorsAfter};
+ghost use Rattle.sheeting.specs.Sheet.{sheetAnswer, sheetLabelsAfter, sheetFiguresAfter};
 ghost use Rattle.routing.specs.Route.{routeAnswer, arcsAfter};
 ghost use Rattle.exports.specs.Codes.{numberOr0, arrivalCode, countCode};
 use checking::network::NetworkCheck;
@@ -15,6 +16,8 @@ use model::label::UNREACHED;
 use model::tick::Tick;
 use routing::route::Routed;
 use routing::route::route;
+use sheeting::sheet::Sheeted;
+use sheeting::sheet::sheet;
 
 // 0, or the refusal's number.
 #[no_mangle]
@@ -84,6 +87,44 @@ pub extern "C" fn exports_labels(
     ) {
         Labelled::Written => 0,
         Labelled::Refused(refusal) => refusal.number(),
+    }
+}
+
+// 0, or the refusal's number.
+#[no_mangle]
+pub extern "C" fn exports_sheet(
+    junctions: u32,
+    fences: &[u32],
+    tails: &[u16],
+    heads: &[u16],
+    lengths: &[u32],
+    speeds: &[u8],
+    source: u32,
+    departures: &[u32],
+    labels: &mut [u32],
+    figures: &mut [u32],
+) -> u32
+    ensures answer { λ r. ⌜ r ≡
+        numberOr0 (sheetAnswer (lentNetwork junctions fences tails heads lengths speeds) source (now (departures .entry)) (now (labels .entry)) (now (figures .entry))) ⌝ }
+    ensures labels { λ _. ⌜ now (labels .exit) ≡
+        sheetLabelsAfter (lentNetwork junctions fences tails heads lengths speeds) source (now (departures .entry)) (now (labels .entry)) (now (figures .entry)) ⌝ }
+    ensures figures { λ _. ⌜ now (figures .exit) ≡
+        sheetFiguresAfter (lentNetwork junctions fences tails heads lengths speeds) source (now (departures .entry)) (now (labels .entry)) (now (figures .entry)) ⌝ }
+{
+    match sheet(
+        junctions,
+        fences,
+        tails,
+        heads,
+        lengths,
+        speeds,
+        source,
+        departures,
+        labels,
+        figures,
+    ) {
+        Sheeted::Written => 0,
+        Sheeted::Refused(refusal) => refusal.number(),
     }
 }
 

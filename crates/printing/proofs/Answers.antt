@@ -6,14 +6,14 @@ use mathlib.Core.List.{List}
 use native.Mathlib.Omega.{arith}
 use lib.Dec.{eqb}
 use lib.ListN.{length, drop}
-use borrow.Author.Tests.{lt-ltb, le-ltb}
 use Rattle.model.proofs.Rules.{true-both}
 use Rattle.townfile.specs.FirstFault.{refusedAt}
 use Rattle.asking.specs.Line.{numbersIn, ofForm, restStart}
-use Rattle.asking.proofs.Forms.{tested}
+use Rattle.asking.specs.Question.{markQU, sourceIn, townText}
+use Rattle.asking.proofs.Answers.{asked-too-long, asked-not, asked-so, rest-inside}
 use Rattle.putting.specs.Texts.{refusalText}
 use Rattle.printing.specs.Answer.{textOf, townAnswer, answerTo, arrivalsText}
-use Rattle.printing.specs.Question.{markQU, asks, sourceIn, departureIn, townText}
+use Rattle.printing.specs.Question.{asks, departureIn}
 use Rattle.printing.specs.code.Found.{questionIn}
 use Rattle.printing.specs.declared.question.Question.the-variants.{Asked, Malformed}
 
@@ -22,15 +22,15 @@ use Rattle.printing.specs.declared.question.Question.the-variants.{Asked
 module _ (input : List ℕ) where
   pub answer-too-long : 65536 < length input → answerTo input ≡ refusedAt 20 0
   unfolding answerTo
-  answer-too-long h = rw (lt-ltb 65536 (length input) h)
+  answer-too-long h = asked-too-long input _ (asks input) h
 
   pub answer-not-asked : length input ≤ 65536 → asks input ≡ false → answerTo input ≡ refusedAt 25 0
   unfolding answerTo
-  answer-not-asked h a = rw (le-ltb 65536 (length input) h, a)
+  answer-not-asked h a = asked-not input _ h a
 
   pub answer-asked : length input ≤ 65536 → asks input ≡ true → answerTo input ≡ townAnswer (townText input) (sourceIn input) (departureIn input)
   unfolding answerTo
-  answer-asked h a = rw (le-ltb 65536 (length input) h, a)
+  answer-asked h a = asked-so input _ h a
 
 -- ---- The text, by what the code finds
 
@@ -49,7 +49,7 @@ text-not-asked input h e = go (asks input) refl e
 -- The town file begins within the input.
 town-inside : (input : List ℕ) → asks input ≡ true → restStart input ≤ length input
 unfolding asks
-town-inside input a = omega (arith, tested markQU input (true-both (ofForm markQU input) (eqb (length (numbersIn input)) 2) a .0) .ended)
+town-inside input a = rest-inside markQU input (true-both (ofForm markQU input) (eqb (length (numbersIn input)) 2) a .0)
 
 pub record TextAsked (input : List ℕ) (source departure town : ℕ) : Type 0 where
   pub inside : town ≤ length input

@@ -5,4 +5,3 @@ pub mod Networks
 pub mod Questions
 pub mod ReadBack
 pub mod Status
-pub mod Towns

@@ -1,22 +1,22 @@
 -- The answer to an input in each case of the paper, and so what each answer means. Different answers have different texts.
-use Prim.Native.Nat.{ℕ, suc, _+_, _≤_, _<_}
+use Prim.Native.Nat.{ℕ, _≤_, _<_}
 use mathlib.Core.Path.{_≡_, refl, sym, _∙_}
 use mathlib.Core.Bool.{Bool, true, false}
-use mathlib.Core.List.{List, _∷_}
+use mathlib.Core.List.{List}
 use mathlib.Core.Logic.{_⊎_, inl, inr}
 use native.Mathlib.Omega.{arith}
-use lib.ListN.{length, length-append}
-use lib.Seq.{getD-append-add}
+use lib.ListN.{length}
 use borrow.Author.Tests.{lt-ltb, le-ltb}
 use Rattle.model.specs.Ticks.{day}
 use Rattle.model.specs.Rules.{firstBroken}
 use Rattle.model.proofs.Demands.{demand-2, only-tables-of-network}
 use Rattle.model.proofs.Tests.{ltb-cases}
-use Rattle.townfile.specs.Bytes.{lineFeed}
 use Rattle.townfile.specs.FirstFault.{Reading, refusedAt, accepted, firstFault}
 use Rattle.townfile.specs.Grammar.{Bytes, Town, Describes, networkOf}
 use Rattle.townfile.specs.declared.progress.Progress.{Progress}
 use Rattle.townfile.proofs.Described.{faultless-described}
+use Rattle.asking.proofs.Answers.{rest-bytes}
+use Rattle.asking.proofs.Towns.{answer-faulty, answer-described}
 use Rattle.putting.specs.Texts.{refusalText}
 use Rattle.putting.proofs.Texts.{same-refusal}
 use Rattle.printing.specs.Answer.{Arrivals, arrivalsIn, networkAnswer, townAnswer, answerTo, tableText, textOf, arrivalsText}
@@ -25,7 +25,6 @@ use Rattle.printing.specs.Question.{QuestionAndText, asks}
 use Rattle.printing.proofs.Answers.{answer-too-long, answer-not-asked, answer-asked}
 use Rattle.printing.proofs.Questions.{asks-when-of-form}
 use Rattle.printing.proofs.ReadBack.{same-arrivals, table-no-refusal}
-use Rattle.printing.proofs.Towns.{answer-faulty, answer-described}
 
 abbrev Means : List ℕ → Reading Arrivals → Type 0
 Means input (refusedAt number line) = RefusalMeans input number line
@@ -42,7 +41,7 @@ module _ (input : List ℕ) (bytes : Bytes input) where
 
     module _ {town : Town} (described : Describes text town) where
       answer-town : answerTo input ≡ networkAnswer (networkOf town) source departure
-      answer-town = answer-question ∙ answer-described text source departure described
+      answer-town = answer-question ∙ answer-described _ text described
 
       answer-unknown : town .junctions ≤ source → answerTo input ≡ refusedAt 9 0
       unfolding networkAnswer firstBroken
@@ -72,7 +71,7 @@ module _ (input : List ℕ) (bytes : Bytes input) where
       go : (test : Bool) → asks input ≡ test → answerTo input ≡ refusedAt 25 0
       go true a = absurd (none _ _ _ (asks-when-of-form input bytes _ _ _ .0 (a, refl, refl, refl)))
       go false a = answer-not-asked input short a
-  meant-refusal (faulty-text short question fault) = answer-question short question ∙ answer-faulty _ _ _ fault
+  meant-refusal (faulty-text short question fault) = answer-question short question ∙ answer-faulty _ _ fault
   meant-refusal (unknown-source short question described outside) = answer-unknown short question described outside
   meant-refusal (late-departure short question described below late) = answer-late short question described below late
 
@@ -107,15 +106,13 @@ module _ (input : List ℕ) (bytes : Bytes input) where
           }
 
   text-bytes : {source departure : ℕ} {text : List ℕ} → QuestionAndText input source departure text → Bytes text
-  text-bytes {text = text} question i h =
-      let line = question .bytes in
-      rw (getD-append-add line (lineFeed ∷ text) (suc i) 0) at (rw (question .in-all) at bytes (suc (suc (length line + suc i))) (rw length-append (omega arith)))
+  text-bytes question = rest-bytes bytes (record { bytes = question .bytes; fields = question .two-fields; in-all = question .in-all })
 
   asked-means : length input ≤ 65536 → {source departure : ℕ} {text : List ℕ} → QuestionAndText input source departure text → Means input (answerTo input)
   asked-means short {text = text} question = go (firstFault text) refl
     where
       go : (reading : Reading Progress) → firstFault text ≡ reading → Means input (answerTo input)
-      go (refusedAt number line) e = rw (answer-question short question ∙ answer-faulty _ _ _ e) (faulty-text short question e)
+      go (refusedAt number line) e = rw (answer-question short question ∙ answer-faulty _ _ e) (faulty-text short question e)
       go (accepted p) e = described-means short question (faultless-described (text-bytes question) e .1)
 
   unasked : asks input ≡ false → (source departure : ℕ) (text : List ℕ) → QuestionAndText input source departure text → ⊥

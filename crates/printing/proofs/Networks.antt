@@ -25,7 +25,8 @@ use Rattle.putting.specs.Texts.{numberUnless}
 use Rattle.putting.specs.code.Printed.{Printed}
 use Rattle.putting.proofs.Digits.{digits-short}
 use Rattle.putting.proofs.Texts.{dash, no-dash}
-use Rattle.printing.specs.Answer.{tableText, arrivalsIn, atLineZero, networkAnswer}
+use Rattle.asking.specs.Answers.{atLineZero}
+use Rattle.printing.specs.Answer.{tableText, arrivalsIn, networkAnswer}
 use Rattle.printing.specs.code.Tables.{TableFits}
 
 -- ---- A predecessor is an arc or none

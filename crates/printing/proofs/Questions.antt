@@ -12,9 +12,10 @@ use Rattle.model.specs.Rules.{written}
 use Rattle.model.proofs.Rules.{true-both, both-true}
 use Rattle.townfile.specs.Grammar.{Bytes}
 use Rattle.asking.specs.Line.{numbersIn, ofForm, restOf, LineAndRest}
+use Rattle.asking.specs.Question.{markQU, sourceIn, townText}
 use Rattle.asking.proofs.Asked.{NumbersAsked}
 use Rattle.asking.proofs.Forms.{of-form-when-written}
-use Rattle.printing.specs.Question.{markQU, asks, sourceIn, departureIn, townText, QuestionAndText, AsksWhenOfForm}
+use Rattle.printing.specs.Question.{asks, departureIn, QuestionAndText, AsksWhenOfForm}
 use Rattle.printing.specs.code.Found.{questionIn}
 use Rattle.printing.specs.declared.question.Question.the-variants.{Asked, Malformed}
 

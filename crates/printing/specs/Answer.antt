@@ -1,24 +1,19 @@
--- "For more than 65,536 bytes in all it prints only `refused 20 line 0`. Then a first line not of that form, or none, gives `refused 25
--- line 0`, then Load's refusals with their town-file line, then 9 or 10 with line 0. Otherwise the header shown below, then a line per
--- junction: its number, its label, its predecessor, one space apart; `-` for unreached or no predecessor. Each printed line ends in LF."
+-- After what every program refuses, "then 9 or 10 with line 0. Otherwise the header shown below, then a line per junction: its number,
+-- its label, its predecessor, one space apart; `-` for unreached or no predecessor. Each printed line ends in LF."
 use Prim.Native.Nat.{ℕ, suc}
-use mathlib.Core.Bool.{cond, not}
 use mathlib.Core.List.{List, [], _∷_, _++_}
-use lib.Dec.{ltb}
-use lib.ListN.{length}
 use Rattle.model.specs.Ticks.{never}
 use Rattle.model.specs.Labels.{noArc, labelsOf, predecessorsOf}
 use Rattle.model.specs.Network.{Network, netOf}
-use Rattle.model.specs.Rules.{Outcome, refused, replied, firstBroken}
+use Rattle.model.specs.Rules.{firstBroken}
 use Rattle.townfile.specs.Bytes.{lineFeed, space}
-use Rattle.townfile.specs.FirstFault.{Reading, refusedAt, accepted, firstFault}
-use Rattle.townfile.specs.Grammar.{networkOf}
-use Rattle.townfile.specs.Tables.{townOf}
-use Rattle.townfile.specs.declared.progress.Progress.{Progress}
+use Rattle.townfile.specs.FirstFault.{Reading}
 use Rattle.checking.specs.Question.{startRules}
+use Rattle.asking.specs.Answers.{atLineZero, inTown, whereAsked}
+use Rattle.asking.specs.Question.{sourceIn, townText}
 use Rattle.putting.specs.Digits.{digitsOf}
-use Rattle.putting.specs.Texts.{numberUnless, refusalText}
-use Rattle.printing.specs.Question.{asks, sourceIn, departureIn, townText}
+use Rattle.putting.specs.Texts.{numberUnless, answerText}
+use Rattle.printing.specs.Question.{asks, departureIn}
 
 -- ---- What is answered
 
@@ -30,27 +25,15 @@ pub record Arrivals : Type 0 where
 abbrev pub arrivalsIn : Network → ℕ → ℕ → Arrivals
 arrivalsIn N source departure = record { labels = labelsOf (netOf N) source departure; predecessors = predecessorsOf (netOf N) source departure }
 
-abbrev pub atLineZero : Outcome Arrivals → Reading Arrivals
-atLineZero (refused number) = refusedAt number 0
-atLineZero (replied arrivals) = accepted arrivals
-
 -- "Then 9 or 10 with line 0."
 unfoldable pub networkAnswer : Network → ℕ → ℕ → Reading Arrivals
 networkAnswer N source departure = atLineZero (firstBroken (startRules N source departure) (arrivalsIn N source departure))
 
--- "Then Load's refusals with their town-file line."
-abbrev pub unlessFaulty : Reading Progress → Reading Arrivals → Reading Arrivals
-unlessFaulty (refusedAt number line) answer = refusedAt number line
-unlessFaulty (accepted progress) answer = answer
-
-unfoldable pub townAnswer : List ℕ → ℕ → ℕ → Reading Arrivals
-townAnswer text source departure = unlessFaulty (firstFault text) (networkAnswer (networkOf (townOf text)) source departure)
+abbrev pub townAnswer : List ℕ → ℕ → ℕ → Reading Arrivals
+townAnswer text source departure = inTown (λ N. networkAnswer N source departure) text
 
 unfoldable pub answerTo : List ℕ → Reading Arrivals
-answerTo input =
-    cond (ltb 65536 (length input)) (refusedAt 20 0)
-    (cond (not (asks input)) (refusedAt 25 0)
-    (townAnswer (townText input) (sourceIn input) (departureIn input)))
+answerTo input = whereAsked (asks input) input (townAnswer (townText input) (sourceIn input) (departureIn input))
 
 -- ---- How it is printed
 
@@ -73,8 +56,7 @@ unfoldable pub tableText : List ℕ → List ℕ → List ℕ
 tableText labels predecessors = header ++ junctionLines 0 labels predecessors
 
 abbrev pub textOf : Reading Arrivals → List ℕ
-textOf (refusedAt number line) = refusalText number line
-textOf (accepted arrivals) = tableText (arrivals .labels) (arrivals .predecessors)
+textOf answer = answerText (λ arrivals. tableText (arrivals .labels) (arrivals .predecessors)) answer
 
 unfoldable pub arrivalsText : List ℕ → List ℕ
 arrivalsText input = textOf (answerTo input)

@@ -1,5 +1,5 @@
 -- "A line `QU` source departure (two numbers in file form, LF at the end), then a town file."
-use Prim.Native.Nat.{ℕ, _*_, _+_}
+use Prim.Native.Nat.{ℕ}
 use mathlib.Core.Path.{_≡_}
 use mathlib.Core.Bool.{Bool, true, _&&_}
 use mathlib.Core.List.{List, [], _∷_, _++_}
@@ -8,25 +8,15 @@ use lib.Dec.{eqb}
 use lib.ListN.{length, getD}
 use Rattle.townfile.specs.Bytes.{lineFeed}
 use Rattle.townfile.specs.Grammar.{Bytes, Fields}
-use Rattle.asking.specs.Line.{numbersIn, ofForm, restOf}
-
--- The mark as the number of its two bytes.
-abbrev pub markQU : ℕ
-markQU = 81 * 256 + 85
+use Rattle.asking.specs.Line.{numbersIn, ofForm}
+use Rattle.asking.specs.Question.{markQU, sourceIn, townText}
 
 -- The first line is of the form, with two numbers.
 unfoldable pub asks : List ℕ → Bool
 asks input = ofForm markQU input && eqb (length (numbersIn input)) 2
 
-abbrev pub sourceIn : List ℕ → ℕ
-sourceIn input = getD (numbersIn input) 0 0
-
 abbrev pub departureIn : List ℕ → ℕ
 departureIn input = getD (numbersIn input) 1 0
-
--- The town file is what follows the line.
-abbrev pub townText : List ℕ → List ℕ
-townText input = restOf input
 
 -- The same as the grammar says it: `QU`, the source and the departure as fields, LF, and a text behind them.
 pub record QuestionAndText (input : List ℕ) (source departure : ℕ) (text : List ℕ) : Type 0 where

@@ -2,10 +2,8 @@
 ghost use mathlib.Core.Path.{_≡_};
 ghost use Rattle.printing.specs.code.Found.{questionIn};
 use asking::line::Asked;
+use asking::line::QUESTION;
 use asking::line::numbers_line;
-
-// `QU`.
-const QUESTION: u16 = 0x5155;
 
 // The two numbers of the question and where the town file begins.
 pub(crate) enum Question {

@@ -13,9 +13,15 @@ use Rattle.model.proofs.Tests.{eqb-cases}
 use Rattle.townfile.specs.Bytes.{lineFeed, space, upTo}
 use Rattle.townfile.proofs.FieldForm.{upTo-part}
 use Rattle.townfile.proofs.Lacks.{Lacks, cons-lacks}
+use Rattle.refusals.specs.Refusals.{numberOf}
+use Rattle.refusals.specs.declared.refusal.Refusal.{Refusal}
+use Rattle.refusals.proofs.Refusals.{number-fits}
 use Rattle.putting.specs.Digits.{digitsOf}
+use Rattle.putting.specs.Putting.{PutIfRoom}
 use Rattle.putting.specs.Texts.{numberUnless, refusalText}
+use Rattle.putting.specs.code.Printed.{Printed}
 use Rattle.putting.proofs.Digits.{tens, digits-short, digits-lack, same-digits}
+use Rattle.putting.proofs.Putting.{put-printed}
 
 -- ---- A number or a dash
 
@@ -42,8 +48,15 @@ length-refusal : (number line : ℕ) → length (refusalText number line) ≡ le
 unfolding refusalText
 length-refusal number line = simp length-append (omega arith)
 
-pub refusal-short : (number line : ℕ) → number < tens 10 → line < tens 10 → length (refusalText number line) ≤ 35
+refusal-short : (number line : ℕ) → number < tens 10 → line < tens 10 → length (refusalText number line) ≤ 35
 refusal-short number line h h′ = omega (arith, length-refusal number line, digits-short number 9 h, digits-short line 9 h′)
+
+-- So every program's output has room for one.
+pub refusal-printed : (refusal : Refusal) (line : ℕ) {before after : List ℕ} {behind : ℕ} → line < tens 10 → 35 ≤ length before →
+    PutIfRoom (refusalText (numberOf refusal) line) 0 before after behind → Printed (refusalText (numberOf refusal) line) before after behind
+refusal-printed refusal line h room puts =
+    let short = refusal-short (numberOf refusal) line (omega (arith, number-fits refusal)) h in
+    put-printed puts (omega (arith, short))
 
 -- ---- Two texts up to a separator
 

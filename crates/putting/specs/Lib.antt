@@ -1,4 +1,5 @@
 pub mod Digits
 pub mod Putting
+pub mod Status
 pub mod Texts
 pub mod code

@@ -4,6 +4,7 @@ use mathlib.Core.Bool.{cond}
 use mathlib.Core.List.{List, [], _∷_, _++_}
 use lib.Dec.{eqb}
 use Rattle.townfile.specs.Bytes.{lineFeed}
+use Rattle.townfile.specs.FirstFault.{Reading, refusedAt, accepted}
 use Rattle.putting.specs.Digits.{digitsOf}
 
 -- A number, or `-` where it is the mark for none.
@@ -19,3 +20,8 @@ lineWord = 32 ∷ 108 ∷ 105 ∷ 110 ∷ 101 ∷ 32 ∷ []
 
 unfoldable pub refusalText : ℕ → ℕ → List ℕ
 refusalText number line = refusedWord ++ (digitsOf number ++ (lineWord ++ (digitsOf line ++ (lineFeed ∷ []))))
+
+-- A program prints a refusal's line, or what it has for the reply.
+abbrev pub answerText : {Reply : Type 0} → (Reply → List ℕ) → Reading Reply → List ℕ
+answerText print (refusedAt number line) = refusalText number line
+answerText print (accepted reply) = print reply

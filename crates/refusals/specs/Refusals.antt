@@ -1,9 +1,10 @@
--- The number that document 01 gives each refusal, and what is added to it where one number answers either a refusal or a tick.
+-- The number that documents 01 and 02 give each refusal, and what is added to it where one number answers either a refusal or a tick.
 use Prim.Native.Nat.{ℕ}
 use Rattle.refusals.specs.declared.refusal.Refusal.{Refusal}
 use Rattle.refusals.specs.declared.refusal.Refusal.the-variants.{JunctionCount, IntervalCount, ArcCount, TableLength, Fence, ArcEnds, Length, Speed}
 use Rattle.refusals.specs.declared.refusal.Refusal.the-variants.{Source, Departure, BufferLength, Destination, Unreached, ArcListLength, DepartureAfterLast}
 use Rattle.refusals.specs.declared.refusal.Refusal.the-variants.{TextLength, NoLineFeed, LineLength, UnknownMark, MarkOutOfTurn, FieldForm, FieldValue, LineMissing, TableTooShort}
+use Rattle.refusals.specs.declared.refusal.Refusal.the-variants.{DepartureCount, SheetLength}
 
 abbrev pub numberOf : Refusal → ℕ
 numberOf JunctionCount = 1
@@ -30,6 +31,8 @@ numberOf FieldForm = 25
 numberOf FieldValue = 26
 numberOf LineMissing = 27
 numberOf TableTooShort = 28
+numberOf DepartureCount = 30
+numberOf SheetLength = 31
 
 -- "As 4,294,900,000 + its number": a refusal's code is this and its number.
 abbrev pub refusalBase : ℕ

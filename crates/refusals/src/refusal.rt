@@ -31,6 +31,9 @@ pub enum Refusal {
     FieldValue,
     LineMissing,
     TableTooShort,
+    // The sheet's.
+    DepartureCount,
+    SheetLength,
 }
 
 impl Refusal {
@@ -66,6 +69,8 @@ impl Refusal {
             Refusal::FieldValue => 26,
             Refusal::LineMissing => 27,
             Refusal::TableTooShort => 28,
+            Refusal::DepartureCount => 30,
+            Refusal::SheetLength => 31,
         }
     }
 

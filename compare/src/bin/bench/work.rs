@@ -2,26 +2,34 @@
 
 use std::hint::black_box;
 
-use compare::inputs::towns::{DEPARTURE, SOURCE, Town};
+use compare::inputs::towns::{DEPARTURE, SOURCE, Town, departures};
 use compare::operations::{CABINET, Operations, REFERENCE};
-use compare::reference::limits::{MAX_ARCS, MAX_INTERVALS, REFUSED};
+use compare::reference::limits::{FIGURES, MAX_ARCS, MAX_INTERVALS, REFUSED};
 
 #[derive(Clone, Copy, PartialEq)]
 pub enum Operation {
     Load,
     Labels,
     Route,
+    Sheet,
     HostQuestion,
 }
 
 impl Operation {
-    pub const ALL: [Self; 4] = [Self::Load, Self::Labels, Self::Route, Self::HostQuestion];
+    pub const ALL: [Self; 5] = [
+        Self::Load,
+        Self::Labels,
+        Self::Route,
+        Self::Sheet,
+        Self::HostQuestion,
+    ];
 
     pub fn name(self) -> &'static str {
         match self {
             Self::Load => "load",
             Self::Labels => "labels",
             Self::Route => "route",
+            Self::Sheet => "sheet",
             Self::HostQuestion => "host-question",
         }
     }
@@ -75,7 +83,7 @@ impl Row {
         let mut rows = Vec::new();
         for operation in Operation::ALL {
             for town in Town::NAMES {
-                if town != "full" || operation == Operation::Labels {
+                if town != "full" || matches!(operation, Operation::Labels | Operation::Sheet) {
                     rows.extend(Self::named(operation.name(), town));
                 }
             }
@@ -90,6 +98,7 @@ impl Row {
             Operation::Load => load(operations, &self.town),
             Operation::Labels => labels(operations, &self.town),
             Operation::Route => route(operations, &self.town),
+            Operation::Sheet => sheet(operations, &self.town),
             Operation::HostQuestion => host_question(operations, &self.town),
         }
     }
@@ -141,6 +150,23 @@ fn route<'a>(operations: &'a Operations, town: &'a Town) -> Box<dyn FnMut() + 'a
             DEPARTURE,
             destination,
             black_box(&mut arcs),
+        );
+        assert!(reply.is_ok());
+    })
+}
+
+fn sheet<'a>(operations: &'a Operations, town: &'a Town) -> Box<dyn FnMut() + 'a> {
+    let network = town.network.lent();
+    let departures = departures();
+    let mut labels = vec![0; departures.len() * network.junctions as usize];
+    let mut figures = vec![0; FIGURES * network.junctions as usize];
+    Box::new(move || {
+        let reply = (operations.sheet)(
+            black_box(&network),
+            SOURCE,
+            black_box(&departures),
+            black_box(&mut labels),
+            black_box(&mut figures),
         );
         assert!(reply.is_ok());
     })

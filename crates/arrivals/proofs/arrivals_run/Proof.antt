@@ -1,25 +1,13 @@
 -- `arrivals_run`: what was read is a part of the input's buffer, and the statuses that `answer` has are among the three.
 use borrow.Author.Needs.{needs}
-use Prim.Native.Nat.{ℕ}
-use mathlib.Core.Path.{sym, subst}
-use mathlib.Core.List.{List}
-use mathlib.Core.Logic.{⊎-elim}
-use native.Mathlib.Omega.{arith}
-use lib.IntN.{ℤ}
 use mir.Syntax.{w32}
 use mir.ValLaws.{toZ-ofZ}
 use Rattle.printing.specs.Answer.{answerTo}
-use Rattle.printing.proofs.Status.{status-at-most-one}
+use Rattle.putting.proofs.Status.{status-at-most-one}
 use Rattle.streams.proofs.Counted.{counted}
-use Rattle.arrivals.specs.Exit.{ExitStatus, AnswersOrFails}
+use Rattle.streams.proofs.Exit.{status-answered}
 use Rattle.arrivals.proofs.arrivals_run.Statement.{statement}
 use Rattle.arrivals.proofs.arrivals_run.Tie as tie
-
-status-answered : (input : List ℕ) (status : ℤ) → AnswersOrFails input status → ExitStatus status
-status-answered input status =
-    ⊎-elim
-    (λ e. subst ExitStatus (sym e) (omega arith))
-    (λ e. subst ExitStatus (sym e) (omega (arith, status-at-most-one (answerTo input))))
 
 array-share-prefix-input : tie.Need-array-share-prefix-input
 array-share-prefix-input c = (counted _ (c .before .length .given .1) (c .before .before .before .before .read-all .ensures)) .0
@@ -28,7 +16,7 @@ slice-aggregate-answer : tie.Need-slice-aggregate-answer
 slice-aggregate-answer c = (counted _ (c .before .before .length .given .1) (c .before .before .before .before .before .read-all .ensures)) .1
 
 returns-2 : tie.Need-returns-2
-returns-2 c = rw (toZ-ofZ w32 (c .answer .result) (record { sfits = c .answer .ok })) (status-answered _ _ (c .answer .ensures))
+returns-2 c = rw (toZ-ofZ w32 (c .answer .result) (record { sfits = c .answer .ok })) (status-answered _ (status-at-most-one (answerTo _)) _ (c .answer .ensures))
 
 pub arrivals-run-spec : {M : Type 1} → statement M
 arrivals-run-spec =

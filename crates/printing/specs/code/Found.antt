@@ -3,7 +3,8 @@ use Prim.Native.Nat.{ℕ}
 use mathlib.Core.Bool.{cond}
 use mathlib.Core.List.{List}
 use Rattle.asking.specs.Line.{restStart}
-use Rattle.printing.specs.Question.{asks, sourceIn, departureIn}
+use Rattle.asking.specs.Question.{sourceIn}
+use Rattle.printing.specs.Question.{asks, departureIn}
 use Rattle.printing.specs.declared.question.Question.{Question}
 use Rattle.printing.specs.declared.question.Question.the-variants.{Asked, Malformed}
 

@@ -6,7 +6,8 @@ use Rattle.townfile.specs.Grammar.{Bytes}
 use Rattle.townfile.specs.Load.{counts, Tables, tables}
 use Rattle.loading.specs.Loaded.{readingOf}
 use Rattle.loading.specs.declared.load.Loaded.the-variants.{Counts}
-use Rattle.printing.proofs.Towns.{TownLoaded, town-refused, town-loaded}
+use Rattle.asking.proofs.Towns.{TownLoaded, town-refused, town-loaded}
+use Rattle.printing.specs.Answer.{networkAnswer}
 use borrow.Author.Needs.{needs}
 use Rattle.printing.proofs.arrivals.town_arrivals.Statement.{statement}
 use Rattle.printing.proofs.arrivals.town_arrivals.Tie as tie
@@ -22,8 +23,8 @@ held c = let last = c .load .last .1 in tables (last .0) (last .1 .0) (last .1 .
 
 -- the tables after Load
 loaded : (c : tie.After-load) {j i a : ℕ} → c .load .result ≡ Counts j i a →
-    TownLoaded (now (begun c .args .text)) (bytes c) (begun c .args .source) (begun c .args .departure) (counts j i a) (held c)
-loaded c told = town-loaded _ (bytes c) _ _ (ap readingOf (sym told) ∙ c .load .ensures .0) (c .load .ensures .1)
+    TownLoaded (λ N. networkAnswer N (begun c .args .source) (begun c .args .departure)) (now (begun c .args .text)) (bytes c) (counts j i a) (held c)
+loaded c told = town-loaded _ _ (bytes c) (ap readingOf (sym told) ∙ c .load .ensures .0) (c .load .ensures .1)
 
 loaded-arrivals-requires : tie.Need-loaded-arrivals-requires
 loaded-arrivals-requires c κs =
@@ -34,7 +35,7 @@ loaded-arrivals-requires c κs =
 returns : tie.Need-returns
 returns c =
     let called = c .before .before .before .before .before .before .before .before .before .before in
-    rw (town-refused _ (bytes called) _ _ (ap readingOf (sym (c .before .before .before .refusal .given .1)) ∙ called .load .ensures .0)) (c .refuse .ensures)
+    rw (town-refused _ _ (bytes called) (ap readingOf (sym (c .before .before .before .refusal .given .1)) ∙ called .load .ensures .0)) (c .refuse .ensures)
 
 returns-2 : tie.Need-returns-2
 returns-2 c =

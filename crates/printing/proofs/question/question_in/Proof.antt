@@ -4,7 +4,7 @@ use mathlib.Core.Path.{sym, _∙_}
 use lib.ListN.{replicate}
 use denote.Ref.{now}
 use Rattle.asking.proofs.Asked.{NumbersAsked, numbers-asked, malformed-asked}
-use Rattle.printing.specs.Question.{markQU}
+use Rattle.asking.specs.Question.{markQU}
 use Rattle.printing.proofs.Questions.{other-form, other-count, asked}
 use Rattle.printing.proofs.question.question_in.Statement.{statement}
 use Rattle.printing.proofs.question.question_in.Tie as tie

@@ -1,0 +1,34 @@
+-- `sheet_run`: what was read is a part of the input's buffer, and the statuses that `answer` has are among the three.
+use borrow.Author.Needs.{needs}
+use mir.Syntax.{w32}
+use mir.ValLaws.{toZ-ofZ}
+use Rattle.sheettext.specs.Answer.{sheetFor}
+use Rattle.putting.proofs.Status.{status-at-most-one}
+use Rattle.streams.proofs.Counted.{counted}
+use Rattle.streams.proofs.Exit.{status-answered}
+use Rattle.sheet.proofs.sheet_run.Statement.{statement}
+use Rattle.sheet.proofs.sheet_run.Tie as tie
+
+array-share-prefix-input : tie.Need-array-share-prefix-input
+array-share-prefix-input c = (counted _ (c .before .length .given .1) (c .before .before .before .before .read-all .ensures)) .0
+
+slice-aggregate-answer : tie.Need-slice-aggregate-answer
+slice-aggregate-answer c = (counted _ (c .before .before .length .given .1) (c .before .before .before .before .before .read-all .ensures)) .1
+
+returns-2 : tie.Need-returns-2
+returns-2 c = rw (toZ-ofZ w32 (c .answer .result) (record { sfits = c .answer .ok })) (status-answered _ (status-at-most-one (sheetFor _)) _ (c .answer .ensures))
+
+pub sheet-run-spec : {M : Type 1} → statement M
+sheet-run-spec =
+    tie.close
+    (tie.spec
+    (λ c. search needs)
+    (λ c. search needs)
+    (λ c κs. search needs)
+    (λ c. search needs)
+    (λ c. search needs)
+    (λ c. search needs)
+    array-share-prefix-input
+    slice-aggregate-answer
+    (λ c κs. search needs)
+    returns-2)

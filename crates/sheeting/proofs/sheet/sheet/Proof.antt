@@ -1,0 +1,84 @@
+-- `sheet::sheet`: the check's refusal, then the buffers' lengths, then the rows and from them the figures.
+use borrow.Author.Needs.{needs}
+use mathlib.Core.Path.{_≡_, sym, ap, _∙_}
+use native.Mathlib.Nat.{mul-le-mul}
+use native.Mathlib.Omega.{arith}
+use denote.Ref.{now}
+use borrow.Author.Tests.{ne-eqb, eq-eqb}
+use Rattle.model.specs.Network.{Network, network}
+use Rattle.model.specs.Rules.{replied}
+use Rattle.checking.specs.NetworkCheck.{outcomeOf}
+use Rattle.sheeting.specs.Sheet.{shiftCheck, ShiftTaken, Sheetable}
+use Rattle.sheeting.specs.code.Columns.{columnFigures}
+use Rattle.sheeting.proofs.RowByRow.{columns-kept, figures-are}
+use Rattle.sheeting.proofs.SheetRules.{check-taken, check-refuses, buffers-refuse, ends-written}
+use Rattle.sheeting.proofs.sheet.sheet.Statement.{statement}
+use Rattle.sheeting.proofs.sheet.sheet.Tie as tie
+
+abbrev start : tie.After-enum-told → tie.Start
+start c = c .before .before .before .before .before .before .before .before .before .before .before
+
+abbrev N : tie.After-enum-told → Network
+N c =
+    let args = start c .args in
+    network (args .junctions) (now (args .fences)) (now (args .tails)) (now (args .heads)) (now (args .lengths)) (now (args .speeds))
+
+-- the source and the list are taken
+checked : (c : tie.After-enum-told) → shiftCheck (N c) (start c .args .source) (now (start c .args .departures)) ≡ replied tt
+checked c = sym (c .before .before .shift-check .ensures) ∙ ap outcomeOf (c .enum-told .given .1)
+
+taken : (c : tie.After-enum-told) → ShiftTaken (N c) (start c .args .source) (now (start c .args .departures))
+taken c = check-taken _ _ _ (checked c)
+
+sheetable : (c : tie.Else2) → let told = c .before .before in
+    let args = start told .args in Sheetable (N told) (args .source) (now (args .departures)) (now (args .labels)) (now (args .figures))
+sheetable c = record { taken = taken (c .before .before); labels-long = c .before .if1 .left; figures-long = c .if2 .left }
+
+returns : tie.Need-returns
+returns c = check-refuses _ _ _ _ _ (sym (ap outcomeOf (c .before .refusal .given .1)) ∙ c .before .before .before .shift-check .ensures)
+
+mul-if1 : tie.Need-mul-if1
+mul-if1 c = omega (arith, mul-le-mul (taken c .at-most) (taken c .accepted .junctions-fit))
+
+returns-2 : tie.Need-returns-2
+returns-2 c = buffers-refuse _ _ _ _ _ (checked (c .before)) (rw (ne-eqb _ _ (c .if1 .taken)))
+
+returns-3 : tie.Need-returns-3
+returns-3 c = buffers-refuse _ _ _ _ _ (checked (c .before .before)) (rw (eq-eqb _ _ (c .before .if1 .left), ne-eqb _ _ (c .if2 .taken)))
+
+write-rows-requires : tie.Need-write-rows-requires
+write-rows-requires c κs = let fits = sheetable (c .before) in record { taken = fits .taken; labels-long = fits .labels-long }
+
+write-figures-requires : tie.Need-write-figures-requires
+write-figures-requires c κs =
+    let wrote = c .before .before .before .before in
+    let fits = sheetable (wrote .before .before) in
+    (λ j h. rw (wrote .write-rows .ensures) (columns-kept _ _ _ (fits .taken) j h), fits .figures-long)
+
+returns-4 : tie.Need-returns-4
+returns-4 c =
+    let figured = c .before .before in
+    let wrote = figured .before .before .before .before .before in
+    let fits = sheetable (wrote .before .before) in
+    let told = wrote .before .before .before .before in
+    let rows = wrote .write-rows .ensures in
+    let of-rows = ap (λ l. columnFigures l (now (start told .args .departures)) (N told .junctions) 0 (N told .junctions)) rows in
+    ends-written _ _ _ _ _ fits rows (figured .write-figures .ensures ∙ of-rows ∙ figures-are _ _ _)
+
+pub sheet-spec : {M : Type 1} → statement M
+sheet-spec =
+    tie.close
+    (tie.spec
+    (λ c κs. search needs)
+    (λ c. search needs)
+    returns
+    (λ c. search needs)
+    mul-if1
+    returns-2
+    (λ c. search needs)
+    returns-3
+    write-rows-requires
+    write-figures-requires
+    (λ c. search needs)
+    (λ c. search needs)
+    returns-4)

@@ -1,0 +1,44 @@
+// The rows of a sheet: the labels of one departure after another.
+ghost use mathlib.Core.Path.{_≡_};
+ghost use Rattle.model.specs.Lent.{lentNetwork, networkIn};
+ghost use Rattle.sheeting.specs.Rows.{rowsOf};
+ghost use Rattle.sheeting.specs.code.Writing.{RowsAsked};
+use model::label::NO_ARC;
+use model::limit::MAX_JUNCTIONS;
+use settling::label::label_from;
+
+// The predecessors are written too, and not handed out.
+pub(crate) fn write_rows(
+    junctions: usize,
+    fences: &[u32],
+    tails: &[u16],
+    heads: &[u16],
+    lengths: &[u32],
+    speeds: &[u8],
+    source: usize,
+    departures: &[u32],
+    labels: &mut [u32],
+)
+    requires { ⌜ RowsAsked (networkIn junctions fences tails heads lengths speeds) source (now departures) (now labels) ⌝ }
+    ensures { λ _. ⌜ now (labels .exit) ≡ rowsOf (lentNetwork junctions fences tails heads lengths speeds) source (now (departures .entry)) ⌝ }
+{
+    let mut predecessors = [NO_ARC; MAX_JUNCTIONS];
+    let mut k = 0;
+    while k < departures.len() {
+        let from = k * junctions;
+        let to = from + junctions;
+        label_from(
+            junctions,
+            fences,
+            tails,
+            heads,
+            lengths,
+            speeds,
+            source,
+            departures[k],
+            &mut labels[from..to],
+            &mut predecessors[..junctions],
+        );
+        k += 1;
+    }
+}

@@ -1,0 +1,5 @@
+pub mod Answer
+pub mod Meaning
+pub mod Question
+pub mod Status
+pub mod code

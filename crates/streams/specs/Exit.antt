@@ -1,0 +1,13 @@
+-- A program's exit status: 0 for an answer, 1 for a refusal, 2 where the input was not read or the output not written.
+use Prim.Native.Nat.{ℕ, _≤_}
+use mathlib.Core.Path.{_≡_}
+use mathlib.Core.Logic.{_⊎_}
+use lib.IntN.{ℤ, pos, negsuc}
+
+abbrev pub ExitStatus : ℤ → Type 0
+ExitStatus (pos status) = status ≤ 2
+ExitStatus (negsuc status) = ⊥
+
+-- Unless the output failed, the status is that of the answer.
+abbrev pub AnswersOrFails : ℕ → ℤ → Type 0
+AnswersOrFails answer status = (status ≡ pos 2) ⊎ (status ≡ pos answer)

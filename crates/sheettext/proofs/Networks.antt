@@ -1,14 +1,14 @@
 -- In a network that the check accepts, a sheet into buffers of the right length is refused only with 9, 30 and 10, and no junction
 -- counts more departures than the list has. One departure too many is refused as any more are.
 use Prim.Native.Nat.{ℕ, zero, suc, _+_, _-_, _*_, _≤_, _<_}
-use mathlib.Core.Path.{_≡_, refl, sym, ap, _∙_}
+use mathlib.Core.Path.{_≡_, sym, ap, _∙_}
 use mathlib.Core.Bool.{Bool, true, false, cond}
 use mathlib.Core.Logic.{inl, inr}
-use mathlib.Core.List.{List, [], _∷_, _++_, map, append-assoc}
+use mathlib.Core.List.{List, [], _∷_, _++_, append-assoc}
 use native.Mathlib.Omega.{arith}
 use lib.Dec.{eqb}
-use lib.ListN.{length, getD, take, length-append, List·getD-append}
-use lib.Seq.{getD-append-add, getD-take, length-take-le, take-all}
+use lib.ListN.{length, take, length-append, length-map}
+use lib.Seq.{getD-take, length-take-le, take-all}
 use borrow.Author.Tests.{eq-eqb}
 use Rattle.model.specs.Demands.{label}
 use Rattle.model.specs.Network.{Network, Accepted}
@@ -19,8 +19,9 @@ use Rattle.model.proofs.NetworkRules.{accepted-kept, accepts-when-kept}
 use Rattle.model.proofs.Rules.{kept-before, refused-before, kept-replies, replies-kept}
 use Rattle.model.proofs.Tests.{ltb-cases}
 use Rattle.townfile.specs.FirstFault.{refusedAt, accepted, firstFault}
-use Rattle.sheeting.specs.Figures.{reaching, journeys, fourOf, figuresFrom, figuresOf, figureIn}
+use Rattle.sheeting.specs.Figures.{reaching, journey, journeys, fourOf, figuresFrom, figuresOf, figureIn}
 use Rattle.sheeting.specs.Sheet.{ShiftTaken, shiftRules, sheetBufferRules, sheetAnswer, sheetFiguresAfter}
+use Rattle.sheeting.proofs.Means.{figure-is}
 use Rattle.sheeting.proofs.SheetRules.{too-many-listed, sheet-replies-when-sheetable}
 use Rattle.asking.specs.Answers.{atLineZero, unlessFaulty, inTown}
 use Rattle.sheettext.specs.Answer.{sheetIn, networkSheet, townSheet, sheetLines}
@@ -30,23 +31,6 @@ use Rattle.sheettext.proofs.LineByLine.{lines-of-part}
 -- ---- The figures of a network
 
 module _ (N : Network) (source : ℕ) (departures : List ℕ) where
-  figures-at : (j k i f : ℕ) → i < k → f < 4 → getD (figuresFrom N source departures j k) (4 * i + f) 0 ≡ getD (fourOf (journeys N source (j + i) departures)) f 0
-  unfolding figuresFrom
-  figures-at j zero i f h small = absurd (omega arith)
-  figures-at j (suc k) zero f h small =
-      let four = fourOf (journeys N source j departures) in
-      let rest = figuresFrom N source departures (suc j) k in
-      let here : j ≡ j + 0 = omega arith in
-      let first : 4 * 0 + f ≡ f = omega arith in
-      ap (λ n. getD (four ++ rest) n 0) first ∙ List·getD-append four rest 0 f small ∙ ap (λ i. getD (fourOf (journeys N source i departures)) f 0) here
-  figures-at j (suc k) (suc i) f h small =
-      let four = fourOf (journeys N source j departures) in
-      let rest = figuresFrom N source departures (suc j) k in
-      let later : suc j + i ≡ j + suc i = omega arith in
-      let behind : 4 * suc i + f ≡ 4 + (4 * i + f) = omega arith in
-      ap (λ n. getD (four ++ rest) n 0) behind ∙ getD-append-add four rest (4 * i + f) 0
-      ∙ figures-at (suc j) k i f (omega arith) small ∙ ap (λ i. getD (fourOf (journeys N source i departures)) f 0) later
-
   figures-from-long : (j k : ℕ) → length (figuresFrom N source departures j k) ≡ 4 * k
   unfolding figuresFrom
   figures-from-long j zero = omega arith
@@ -56,10 +40,6 @@ module _ (N : Network) (source : ℕ) (departures : List ℕ) where
   pub figures-long : length (figuresOf N source departures) ≡ 4 * N .junctions
   unfolding figuresOf
   figures-long = figures-from-long 0 (N .junctions)
-
-  length-map : (f : ℕ → ℕ) (numbers : List ℕ) → length (map f numbers) ≡ length numbers
-  length-map f [] = refl
-  length-map f (n ∷ numbers) = ap suc (length-map f numbers)
 
   reaching-few : (j : ℕ) (listed : List ℕ) → length (reaching N source j listed) ≤ length listed
   unfolding reaching
@@ -72,10 +52,9 @@ module _ (N : Network) (source : ℕ) (departures : List ℕ) where
       go false few = omega arith
 
   count-short : (j : ℕ) → j < N .junctions → figureIn (figuresOf N source departures) j 0 ≤ length departures
-  unfolding figuresOf
   count-short j h =
-      rw (figures-at 0 (N .junctions) j 0 h (omega arith))
-      (omega (arith, length-map (λ departure. label N source departure (0 + j) - departure) (reaching N source (0 + j) departures), reaching-few (0 + j) departures))
+      rw (figure-is N source departures j 0 h (omega arith))
+      (omega (arith, length-map (reaching N source j departures) (journey N source j), reaching-few j departures))
 
 -- ---- What the sheet answers
 

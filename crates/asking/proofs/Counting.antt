@@ -1,7 +1,7 @@
 -- The numbers of a line counted one by one: a field read takes one from those that are left, and behind the last one stands LF.
 use Prim.Native.Nat.{ℕ, zero, suc, _+_, _≤_, _<_}
 use mathlib.Core.Path.{_≡_, refl, sym, _∙_}
-use mathlib.Core.Bool.{Bool, true, false, _&&_}
+use mathlib.Core.Bool.{Bool, true, false, _&&_, and-false}
 use mathlib.Core.List.{List, [], _∷_, map}
 use native.Mathlib.Omega.{arith}
 use lib.Dec.{ltb, eqb}
@@ -13,7 +13,7 @@ use Rattle.townfile.specs.Numbers.{decimal, numberKeeps}
 use Rattle.fields.specs.Fields.{lineFrom, wordFrom, fieldAt, fieldsFrom, numbersFrom, filledBy}
 use Rattle.fields.specs.declared.field.Field.the-variants as field
 use Rattle.fields.proofs.LineFrom.{line-ends, line-feed-ends, line-goes-on}
-use Rattle.fields.proofs.FieldsLeft.{and-false, FieldRead, field-not-read, field-goes, number-goes, word-gone, word-behind, end-behind, unfilled-without-field, unfilled-before-end}
+use Rattle.fields.proofs.FieldsLeft.{FieldRead, field-not-read, field-goes, number-goes, word-gone, word-behind, end-behind, unfilled-without-field, unfilled-before-end}
 use Rattle.asking.specs.code.Counting.{onlyNumbers, countedFrom}
 use Rattle.asking.specs.declared.line.Asked.the-variants.{Numbers, Malformed}
 

@@ -1,7 +1,7 @@
 -- A line that begins with a mark has two bytes, so that what stands behind them is the text's line from the third byte on.
 use Prim.Native.Nat.{ℕ, _+_}
 use mathlib.Core.Path.{_≡_, refl, sym, _∙_}
-use mathlib.Core.Bool.{Bool, true, false, cond, not, _&&_}
+use mathlib.Core.Bool.{Bool, true, false, cond, not, _&&_, and-false}
 use mathlib.Core.List.{List, [], _∷_}
 use mathlib.Core.Logic.{inl, inr}
 use native.Mathlib.Omega.{arith}
@@ -13,7 +13,6 @@ use Rattle.model.proofs.Tests.{eqb-cases}
 use Rattle.townfile.specs.Bytes.{lineFeed, upTo}
 use Rattle.townfile.specs.Lines.{markOf}
 use Rattle.fields.specs.Fields.{lineFrom, numbersFrom}
-use Rattle.fields.proofs.FieldsLeft.{and-false}
 use Rattle.asking.specs.Line.{firstLine, behindMark, hasMark, ofForm, askedBy, numbersAfter}
 use Rattle.asking.specs.code.Counting.{onlyNumbers, countedFrom}
 use Rattle.asking.specs.declared.line.Asked.the-variants.{Numbers, Malformed}

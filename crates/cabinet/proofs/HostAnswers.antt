@@ -13,13 +13,13 @@ use Rattle.model.specs.Ticks.{day, last, never}
 use Rattle.model.specs.Limits.{maxJunctions}
 use Rattle.model.specs.Network.{Network, Accepted, netOf}
 use Rattle.model.specs.NetworkRules.{networkRules, networkCheck}
-use Rattle.model.specs.Walks.{Net, Arrives, start, along}
 use Rattle.model.specs.Demands.{label}
 use Rattle.model.specs.Routes.{routeOf}
 use Rattle.refusals.specs.Refusals.{refusalBase}
 use Rattle.model.specs.Rules.{Outcome, refused, replied, Rule, _if_, AllKept}
 use Rattle.model.proofs.Demands.{demand-2}
 use Rattle.model.proofs.NetworkRules.{accepts-when-kept}
+use Rattle.model.proofs.Walks.{arrives-by-last}
 use Rattle.model.proofs.Rules.{refused-exactly-when, replies-kept, kept-before}
 use Rattle.checking.specs.Question.{startRules}
 use Rattle.routing.specs.Route.{Routable, destinationRules, foundRules, routeAnswer}
@@ -34,19 +34,18 @@ use Rattle.townfile.proofs.Held.{zeros-long, town-loads}
 use Rattle.cabinet.specs.Host.{hostList, afterRoute, labelOrCode, hostAnswer, HostRefusal, HostRefusesOnly, HostHasRoom, EarliestAt, Answers, HostAnswersEarliest}
 
 -- A text describes a town, or Load refuses it for a fault.
-loads : (text : List ℕ) → Bytes text → ((T : Town) × Describes text T) ⊎ ((number : ℕ) × (line : ℕ) × (loadAnswer text roomyTables ≡ refusedAt number line) × Fault number)
+abbrev TownOrFault : List ℕ → Type 0
+TownOrFault text = ((T : Town) × Describes text T) ⊎ ((number : ℕ) × (line : ℕ) × (loadAnswer text roomyTables ≡ refusedAt number line) × Fault number)
+
+loads : (text : List ℕ) → Bytes text → TownOrFault text
 unfolding loadAnswer
 loads text bytes = go (firstFault text) refl
   where
-    go : (reading : Reading Progress) → firstFault text ≡ reading → ((T : Town) × Describes text T) ⊎ ((number : ℕ) × (line : ℕ) × (loadAnswer text roomyTables ≡ refusedAt number line) × Fault number)
+    go : (reading : Reading Progress) → firstFault text ≡ reading → TownOrFault text
     go (refusedAt number line) e = inr (number, line, rw e, text-fault text number line e)
     go (accepted p) e = inl (faultless-described bytes e)
 
 -- ---- The answer
-
-arrives-by-last : {N : Net} {source departure j t : ℕ} → departure ≤ last → Arrives N source departure j t → t ≤ last
-arrives-by-last early start = early
-arrives-by-last early (along a is-arc before by-last) = by-last
 
 module _ (N : Network) (kept : Accepted N) (source departure destination : ℕ) where
   abbrev answer : Outcome ℕ
@@ -71,11 +70,13 @@ module _ (N : Network) (kept : Accepted N) (source departure destination : ℕ) 
   answered-routable count e = route-replies-when-routable N source departure destination hostList count .0 e .0
 
   -- The list has room for every route.
-  route-found : source < N .junctions → departure < day → destination < N .junctions → (arrival ≡ never → ⊥) → answer ≡ replied (length (routeOf (netOf N) source departure destination))
+  route-found : source < N .junctions → departure < day → destination < N .junctions → (arrival ≡ never → ⊥) →
+      answer ≡ replied (length (routeOf (netOf N) source departure destination))
   route-found source-below departure-below destination-below reached =
       room-for-every-route N source departure destination hostList kept source-below departure-below destination-below reached (zeros-long maxJunctions (omega arith))
 
-  earliest-answered : source < N .junctions → departure < day → destination < N .junctions → {tick : ℕ} → EarliestAt (netOf N) source departure destination tick → afterRoute answer arrival ≡ tick
+  earliest-answered : source < N .junctions → departure < day → destination < N .junctions → {tick : ℕ} →
+      EarliestAt (netOf N) source departure destination tick → afterRoute answer arrival ≡ tick
   earliest-answered source-below departure-below destination-below {tick} earliest =
       let d = demand-2 N kept source departure source-below departure-below in
       let reached : arrival ≡ never → ⊥ = λ e. d .unreached destination tick e (earliest .attained) in
@@ -130,7 +131,7 @@ host-refuses-only text bytes source departure destination number e = go (loads t
     routed N kept (refused n) is e = let same : n ≡ number = omega arith in route-refusal N kept source departure destination number (is ∙ rw same)
     routed N kept (replied count) is e = absurd (omega (arith, label-below N kept source departure destination (answered-routable N kept source departure destination count is)))
 
-    go : ((T : Town) × Describes text T) ⊎ ((number : ℕ) × (line : ℕ) × (loadAnswer text roomyTables ≡ refusedAt number line) × Fault number) → HostRefusal number
+    go : TownOrFault text → HostRefusal number
     go (inl found) = routed (networkOf (found .0)) (found .1 .kept .network-accepted) _ refl (sym (described-answers text source departure destination (found .1)) ∙ e)
     go (inr fault) =
         let answer = fault-answers text source departure destination (fault .2) in
@@ -167,7 +168,7 @@ host-answers-earliest text bytes source departure destination tick = (forward, b
     forward : (hostAnswer text source departure destination ≡ tick) × (tick < refusalBase) → Answers text source departure destination tick
     forward answers = go (loads text bytes)
       where
-        go : ((T : Town) × Describes text T) ⊎ ((number : ℕ) × (line : ℕ) × (loadAnswer text roomyTables ≡ refusedAt number line) × Fault number) → Answers text source departure destination tick
+        go : TownOrFault text → Answers text source departure destination tick
         go (inl found) = routed (found .1) _ refl (sym (described-answers text source departure destination (found .1)) ∙ answers .0) (answers .1)
         go (inr fault) = absurd (omega (arith, fault-answers text source departure destination (fault .2), answers .0, answers .1))
 

@@ -2,7 +2,7 @@
 -- digit is not 0 has as many digits as its size tells, so they need not be counted.
 use Prim.Native.Nat.{ℕ, suc, _+_, _-_, _*_, _^_, _≤_, _<_}
 use mathlib.Core.Path.{_≡_, refl, sym, ap, _∙_}
-use mathlib.Core.Bool.{Bool, true, false, cond, _&&_}
+use mathlib.Core.Bool.{Bool, true, false, cond, _&&_, and-false}
 use mathlib.Core.Logic.{_⊎_, inl, inr}
 use mathlib.Core.List.{List, [], _∷_}
 use native.Mathlib.Nat.{lt-of-lt-of-le, le-trans, pow-suc, pow-le-pow-right}
@@ -21,7 +21,6 @@ use Rattle.fields.specs.Fields.{lineFrom, wordFrom, fieldAt}
 use Rattle.fields.specs.code.Digits.{justZero, numberFrom}
 use Rattle.fields.specs.declared.field.Field.the-variants.{Number, Malformed}
 use Rattle.fields.proofs.LineFrom.{line-ends, line-feed-ends, line-goes-on, word-ends, separator-ends, word-goes-on}
-use Rattle.fields.proofs.FieldsLeft.{and-false}
 
 -- ---- A digit
 

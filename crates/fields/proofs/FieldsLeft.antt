@@ -2,7 +2,7 @@
 -- line ends.
 use Prim.Native.Nat.{ℕ, suc, _+_, _<_}
 use mathlib.Core.Path.{_≡_, refl, sym, ap, _∙_}
-use mathlib.Core.Bool.{Bool, true, false, cond, _&&_}
+use mathlib.Core.Bool.{Bool, true, false, cond, _&&_, and-false}
 use mathlib.Core.Logic.{_⊎_, inl, inr}
 use mathlib.Core.List.{List, [], _∷_}
 use native.Mathlib.Omega.{arith}
@@ -108,10 +108,6 @@ module _ (text : List ℕ) (at : ℕ) (value next : ℕ) (r : FieldRead text at 
 pub no-bytes : (line : List ℕ) → eqb (length line) 0 ≡ true → line ≡ []
 no-bytes [] e = refl
 no-bytes (byte ∷ line) e = absurd (omega (arith, eqb-true (suc (length line)) 0 e))
-
-pub and-false : (a : Bool) → (a && false) ≡ false
-and-false true = refl
-and-false false = refl
 
 -- Where no word stands and the line has not ended, a field begins.
 module _ (text : List ℕ) (at : ℕ) (gap : eqb (getD (lineFrom text at) 0 0) space ≡ true) where

@@ -52,7 +52,8 @@ module _ (N : Network) (source : ℕ) where
   unfolding rowsOf
   rows-snoc [] departure = append-nil (labelsOf (netOf N) source departure)
   rows-snoc (first ∷ departures) departure =
-      ap (λ behind. labelsOf (netOf N) source first ++ behind) (rows-snoc departures departure) ∙ sym (append-assoc (labelsOf (netOf N) source first) (rowsOf N source departures) (labelsOf (netOf N) source departure))
+      let here = labelsOf (netOf N) source first in
+      ap (λ behind. here ++ behind) (rows-snoc departures departure) ∙ sym (append-assoc here (rowsOf N source departures) (labelsOf (netOf N) source departure))
 
   -- ---- A column
 

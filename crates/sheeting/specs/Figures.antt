@@ -60,8 +60,10 @@ pub record Journey (N : Network) (source departure j ticks : ℕ) : Type 0 where
 -- The journeys to a junction, one for each departure of the list that reaches it by the last tick, in list order.
 pub data Journeys (N : Network) (source j : ℕ) : List ℕ → List ℕ → Type 0 where
   no-departure : Journeys N source j [] []
-  reaches : (departure ticks : ℕ) {departures others : List ℕ} → Journey N source departure j ticks → Journeys N source j departures others → Journeys N source j (departure ∷ departures) (ticks ∷ others)
-  unreached : (departure : ℕ) {departures others : List ℕ} → ((t : ℕ) → Arrives (netOf N) source departure j t → ⊥) → Journeys N source j departures others → Journeys N source j (departure ∷ departures) others
+  reaches : (departure ticks : ℕ) {departures others : List ℕ} → Journey N source departure j ticks →
+      Journeys N source j departures others → Journeys N source j (departure ∷ departures) (ticks ∷ others)
+  unreached : (departure : ℕ) {departures others : List ℕ} → ((t : ℕ) → Arrives (netOf N) source departure j t → ⊥) →
+      Journeys N source j departures others → Journeys N source j (departure ∷ departures) others
 
 -- A number stands in a list.
 abbrev pub Among : ℕ → List ℕ → Type 0

@@ -1,7 +1,7 @@
 -- The question is a line of the mark `QU` with a source: what the code keeps of its numbers, and the grammar's form.
 use Prim.Native.Nat.{ℕ, suc, _-_, _<_, min}
 use mathlib.Core.Path.{_≡_, refl, ap}
-use mathlib.Core.Bool.{true, false}
+use mathlib.Core.Bool.{true, false, and-false}
 use mathlib.Core.List.{List, [], _∷_}
 use mathlib.Core.Logic.{_↔_}
 use native.Mathlib.Omega.{arith}
@@ -11,7 +11,6 @@ use lib.Seq.{take-at}
 use borrow.Author.Tests.{lt-ltb, le-ltb, ltb-true}
 use Rattle.model.specs.Rules.{written}
 use Rattle.model.proofs.Rules.{true-both, both-true}
-use Rattle.fields.proofs.FieldsLeft.{and-false}
 use Rattle.townfile.specs.Grammar.{Bytes}
 use Rattle.asking.specs.Line.{numbersIn, ofForm, restOf}
 use Rattle.asking.specs.Question.{markQU, sourceIn, townText}

@@ -1,7 +1,7 @@
 -- The tournament. No node's key is less than the root's, and on a way down from the root the key stays until a leaf holds it. A
 -- key that is set leaves at most the match above it unplayed; playing that one leaves at most the next.
 use Prim.Native.Nat.{ℕ, zero, suc, _+_, _-_, _*_, _/_, _≤_, _<_, min}
-use mathlib.Core.Path.{_≡_, refl, _∙_}
+use mathlib.Core.Path.{_≡_, refl, ap, _∙_}
 use mathlib.Core.List.{List}
 use mathlib.Core.Logic.{_⊎_, inl, inr, ⊎-elim, by-cases}
 use native.Mathlib.Decide.{decLt, ℕ-discrete}
@@ -66,12 +66,13 @@ module _ {tree : List ℕ} (t : Tournament tree) where
 
 -- ---- A key is set
 
--- The node i was written last: the matches but that above it are played. The leaves are those at the start.
-pub record Entering (start tree : List ℕ) (i : ℕ) : Type 0 where
+-- The node i was written last, with the winner so far: the matches but that above it are played. The leaves are those at the start.
+pub record Entering (start tree : List ℕ) (i winner : ℕ) : Type 0 where
   pub some : 1 ≤ i
   pub within : i < 512
   pub long : length tree ≡ 512
   pub leaves-stay : (j : ℕ) → leaf tree j ≡ leaf start j
+  pub holds : getD tree i 0 ≡ winner
   pub played : (k : ℕ) → 1 ≤ k → k < 256 → (k ≡ i / 2 → ⊥) → Played tree k
 
 -- A match stays played as a node is written that takes no part in it.
@@ -79,13 +80,14 @@ played-stays : (tree : List ℕ) (i v k : ℕ) → (k ≡ i → ⊥) → (2 * k 
 played-stays tree i v k not-winner not-even not-odd played =
     rw (getD-set-other tree i k v 0 not-winner, getD-set-other tree i (2 * k) v 0 not-even, getD-set-other tree i (2 * k + 1) v 0 not-odd) played
 
-pub entering-goes-on : {start tree : List ℕ} {i won : ℕ} → Entering start tree i → 1 < i →
-    won ≡ min (getD tree (2 * (i / 2)) 0) (getD tree (2 * (i / 2) + 1) 0) → Entering start (set tree (i / 2) won) (i / 2)
-entering-goes-on {tree} {i} {won} e below wins = record {
+pub entering-goes-on : {start tree : List ℕ} {i winner won opponent : ℕ} → Entering start tree i winner → 1 < i → opponent ≡ 4 * (i / 2) + 1 - i →
+    won ≡ min (getD tree opponent 0) winner → Entering start (set tree (i / 2) won) (i / 2) won
+entering-goes-on {tree} {i} {winner} {won} {opponent} e below meets wins = record {
   some = omega arith;
   within = omega (arith, e .within);
   long = length-set tree (i / 2) won ∙ e .long;
   leaves-stay = λ j. getD-set-other tree (i / 2) (256 + j) won 0 (λ f. omega (arith, e .within)) ∙ e .leaves-stay j;
+  holds = written;
   played = λ k some above not-last.
       by-cases (ℕ-discrete k (i / 2))
       (λ same. rw same just-played)
@@ -93,27 +95,42 @@ entering-goes-on {tree} {i} {won} e below wins = record {
       (e .played k some above other));
 }
   where
+    written : getD (set tree (i / 2) won) (i / 2) 0 ≡ won
+    written = getD-set-same tree (i / 2) won 0 (omega (arith, e .within, e .long))
+
+    -- the two below are the node and its opponent
+    wins-match : won ≡ min (getD tree (2 * (i / 2)) 0) (getD tree (2 * (i / 2) + 1) 0)
+    wins-match =
+        ⊎-elim
+        (λ even. omega (arith, wins, key even ∙ e .holds, key {k = 2 * (i / 2) + 1} {m = opponent} (omega arith)))
+        (λ odd. omega (arith, wins, key odd ∙ e .holds, key {k = 2 * (i / 2)} {m = opponent} (omega arith)))
+        (halves i)
+      where
+        key : {k m : ℕ} → k ≡ m → getD tree k 0 ≡ getD tree m 0
+        key = ap (λ (k : ℕ). getD tree k 0)
+
     just-played : Played (set tree (i / 2) won) (i / 2)
     just-played =
         rw (
           getD-set-other tree (i / 2) (2 * (i / 2)) won 0 (λ f. omega arith),
           getD-set-other tree (i / 2) (2 * (i / 2) + 1) won 0 (λ f. omega arith),
         )
-        (getD-set-same tree (i / 2) won 0 (omega (arith, e .within, e .long)) ∙ wins)
+        (written ∙ wins-match)
 
 module _ {before : List ℕ} (t : Tournament before) (junction key : ℕ) (inside : junction < 256) where
-  pub entering-starts : Entering (set before (256 + junction) key) (set before (256 + junction) key) (256 + junction)
+  pub entering-starts : Entering (set before (256 + junction) key) (set before (256 + junction) key) (256 + junction) key
   entering-starts = record {
     some = omega arith;
     within = omega arith;
     long = length-set before (256 + junction) key ∙ t .long;
     leaves-stay = λ j. refl;
+    holds = getD-set-same before (256 + junction) key 0 (omega (arith, t .long));
     played = λ k some above not-last.
         played-stays before (256 + junction) key k (λ e. omega arith) (λ e. not-last (omega arith)) (λ e. not-last (omega arith))
         (t .played k some above);
   }
 
-  pub entering-ends : {tree : List ℕ} {i : ℕ} → Entering (set before (256 + junction) key) tree i → i ≤ 1 → Entered before junction key tree
+  pub entering-ends : {tree : List ℕ} {i winner : ℕ} → Entering (set before (256 + junction) key) tree i winner → i ≤ 1 → Entered before junction key tree
   entering-ends e at-root = record {
     tournament = record { long = e .long; played = λ k some above. e .played k some above (λ f. omega arith) };
     is-set = e .leaves-stay junction ∙ getD-set-same before (256 + junction) key 0 (omega (arith, t .long));

@@ -1,7 +1,7 @@
 // A tournament of keys, by which the nearest junction is known. Each junction has a leaf with its key, and each node above
 // plays a match that the lesser of the two keys below it wins: the root holds the least key of all.
 ghost use mathlib.Core.Path.{_≡_};
-ghost use Prim.Native.Nat.{_<_, min};
+ghost use Prim.Native.Nat.{_+_, _-_, _*_, _/_, _<_, min};
 ghost use Rattle.tournament.specs.Tournament.{leaves, Tournament, Entered, Least, keyOf, junctionOf};
 
 // The least power of two that is no less than the number of junctions, so that all leaves lie equally deep.
@@ -43,14 +43,23 @@ fn lesser(a: u32, b: u32) -> u32
     if a < b { a } else { b }
 }
 
-// Sets a junction's key, and plays the eight matches between its leaf and the root again.
+// The node that a node meets. The numbers of the two differ in their lowest bit, and add up to 4 k + 1 where k is that of the node above.
+fn opponent(i: usize) -> usize
+    ensures { λ r. ⌜ r ≡ 4 * (i / 2) + 1 - i ⌝ }
+{
+    i ^ 1
+}
+
+// Sets a junction's key, and plays the eight matches between its leaf and the root again, each by the winner of the one before.
 pub fn enter(tree: &mut [u32; NODES], junction: usize, key: u32)
     ensures { λ _. ⌜ (Tournament (now (tree .entry)) → junction < leaves → Entered (now (tree .entry)) junction key (now (tree .exit))) ⌝ }
 {
     let mut i = LEAVES + junction % LEAVES;
-    tree[i] = key;
+    let mut winner = key;
+    tree[i] = winner;
     while ROOT < i {
+        winner = lesser(tree[opponent(i)], winner);
         i /= 2;
-        tree[i] = lesser(tree[2 * i], tree[2 * i + 1]);
+        tree[i] = winner;
     }
 }

@@ -8,10 +8,10 @@ use Rattle.tournament.proofs.tree.enter.Statement.{statement}
 use Rattle.tournament.proofs.tree.enter.Tie as tie
 
 abbrev Inv-loop : tie.InvT-loop
-Inv-loop tree₀ junction key i₀ tree i = (1 ≤ i) × (i < 512) × (Entering tree₀ tree₀ i₀ → Entering tree₀ tree i)
+Inv-loop tree₀ junction key i₀ winner₀ tree i winner = (1 ≤ i) × (i < 512) × (Entering tree₀ tree₀ i₀ winner₀ → Entering tree₀ tree i winner)
 
 abbrev μ-loop : tie.MeasureT-loop
-μ-loop tree₀ junction key i₀ tree i = i
+μ-loop tree₀ junction key i₀ winner₀ tree i winner = i
 
 loop-holds : tie.Need-loop-holds Inv-loop μ-loop
 loop-holds c = (omega arith, omega arith, λ e. e)
@@ -19,7 +19,7 @@ loop-holds c = (omega arith, omega arith, λ e. e)
 loop-again : tie.Need-loop-again Inv-loop μ-loop
 loop-again c =
     let (some, within, so-far) = c .before .before .before .before .loop .inv in
-    (omega arith, omega arith, λ e. entering-goes-on (so-far e) (omega arith) (c .lesser .ensures))
+    (omega arith, omega arith, λ e. entering-goes-on (so-far e) (omega arith) (c .before .before .opponent .ensures) (c .lesser .ensures))
 
 returns : tie.Need-returns Inv-loop μ-loop
 returns c t inside =
@@ -37,11 +37,7 @@ enter-spec =
     (λ c. omega arith)
     (λ c. omega arith)
     loop-holds
-    (λ c. omega arith)
-    (λ c. omega arith)
-    (λ c. omega arith)
-    (λ c. omega arith)
-    (λ c. omega arith)
+    (λ c κs. omega arith)
     (λ c. omega arith)
     (λ c. omega arith)
     (λ c κs. search needs)

@@ -17,16 +17,12 @@ prove:
 
 # Measures the operations beside the Rust program's: the tables of docs/BENCHMARK.md.
 bench:
-	tests/quietly rt staticlib exports
-	tests/quietly rt staticlib cabinet
+	tests/build exports cabinet
 	cargo run --release --offline --quiet --manifest-path compare/Cargo.toml --bin bench
 
 # Compares with the Rust program on ever new inputs: make soak SEED=7 MINUTES=10
 SEED = 1
 MINUTES = 5
 soak:
-	tests/quietly rt staticlib exports
-	tests/quietly rt staticlib cabinet
-	tests/quietly programs/build arrivals
-	tests/quietly programs/build sheet
+	tests/build exports cabinet arrivals sheet
 	cargo run --release --offline --quiet --manifest-path compare/Cargo.toml --bin soak -- $(SEED) $(MINUTES)

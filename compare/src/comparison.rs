@@ -27,7 +27,7 @@ pub struct Check {
     pub refuses: &'static [RangeInclusive<u32>],
 }
 
-pub const CHECKS: [&Check; 17] = [
+pub const CHECKS: [&Check; 19] = [
     &cases::NETWORK_CHECK,
     &cases::ARC_ARRIVAL,
     &cases::LABELS,
@@ -42,6 +42,8 @@ pub const CHECKS: [&Check; 17] = [
     &properties::ARC_BY_TICKS,
     &properties::LABELS_BY_WALKS,
     &properties::IMPROVEMENT,
+    &properties::DAY_LATER,
+    &properties::LABELS_ROTATED,
     &properties::SHEET_BY_LABELS,
     &properties::SHEET_SHUFFLED,
     &properties::SHEET_TWICE,
@@ -51,7 +53,7 @@ pub const CHECKS: [&Check; 17] = [
 #[derive(Clone, Copy, Debug, PartialEq, Eq, PartialOrd, Ord)]
 pub enum Outcome {
     Answered,
-    /// The arc cannot be driven, or there is no name.
+    /// The arc cannot be driven, there is no name, or midnight makes no difference.
     Nothing,
     Refused(Refusal),
 }

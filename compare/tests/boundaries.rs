@@ -1,5 +1,5 @@
-//! The programs' size limit, the last tick, a sheet's list and buffers, and
-//! towns of fixed size.
+//! The programs' size limit, midnight and the last tick, a sheet's list and
+//! buffers, and towns of fixed size.
 
 use compare::cabinet;
 use compare::comparison::answers::{self, TableLengths};
@@ -7,9 +7,9 @@ use compare::comparison::program::{ARRIVALS, Program, Run, SHEET};
 use compare::comparison::{Difference, Outcome};
 use compare::inputs::OwnedNetwork;
 use compare::inputs::texts::{pad, question_line, town_text};
-use compare::inputs::towns::{DEPARTURE, SOURCE, Town, departures};
+use compare::inputs::towns::{DEPARTURE, EVENING, SOURCE, Town, departures};
 use compare::reference::Refusal;
-use compare::reference::limits::{MAX_TEXT, REFUSED, UNREACHED};
+use compare::reference::limits::{DAY, MAX_TEXT, NO_ARC, REFUSED, UNREACHED};
 
 #[test]
 fn program_input() {
@@ -103,6 +103,122 @@ fn last_tick() {
         assert_eq!(answer, expected[2].min(unreached));
         let route = cabinet::route(&network.lent(), 0, 863_999, 2, &mut [0; 2]);
         assert_eq!(route.is_ok(), expected[2] != UNREACHED);
+    }
+}
+
+/// The arrival on which both agree, `None` where the arc cannot be driven.
+fn arrival(departure: u32, length: u32, fences: &[u32], speeds: &[u8]) -> Option<u32> {
+    if let Err(difference) = answers::arc_arrival(departure, length, fences, speeds) {
+        panic!("{difference}");
+    }
+    let reply = cabinet::arc_arrival(departure, length, fences, speeds);
+    reply.expect("accepted")
+}
+
+#[test]
+fn both_sides_of_midnight() {
+    // A metre in each of a day's first two ticks and a third of one in each of its last
+    // two; standing still between them.
+    let metre = |departure| arrival(departure, 1, &[0, 2, 863_998], &[36, 0, 12]);
+    assert_eq!(metre(0), Some(1));
+    assert_eq!(metre(1), Some(2));
+    // One or two thirds before midnight, or none: the first tick after it is needed.
+    for departure in [2, 3, 863_997, 863_998, 863_999, 864_000] {
+        assert_eq!(metre(departure), Some(864_001));
+    }
+    assert_eq!(metre(864_001), Some(864_002));
+    // Two thirds up to the last tick, where the second day ends.
+    for departure in [864_002, 864_003, 1_727_998, 1_727_999, 1_728_000] {
+        assert_eq!(metre(departure), None);
+    }
+    let late = cabinet::arc_arrival(1_728_001, 1, &[0], &[200]);
+    assert_eq!(late, Err(Refusal(15)));
+}
+
+#[test]
+fn most_intervals_around_midnight() {
+    // 95 intervals of a tick at speed 1 end the day, after one that stands still.
+    let fences: Vec<u32> = [0].into_iter().chain(863_905..864_000).collect();
+    let speeds = [vec![0], vec![1; 95]].concat();
+    let evening = |departure, length| arrival(departure, length, &fences, &speeds);
+    // 36 spans in the first evening.
+    assert_eq!(evening(0, 1), Some(863_941));
+    // 180 spans: 95 in the first evening, and 85 in the second.
+    assert_eq!(evening(0, 5), Some(1_727_990));
+    // Ten of the first 95 may be missed, but not eleven.
+    assert_eq!(evening(863_915, 5), Some(1_728_000));
+    assert_eq!(evening(863_916, 5), None);
+    assert_eq!(evening(0, 6), None);
+
+    // The same at the start of the day, before one that stands still.
+    let fences: Vec<u32> = (0..96).collect();
+    let speeds = [vec![1; 95], vec![0]].concat();
+    let morning = |departure, length| arrival(departure, length, &fences, &speeds);
+    assert_eq!(morning(0, 5), Some(864_085));
+    assert_eq!(morning(10, 5), Some(864_095));
+    assert_eq!(morning(11, 5), None);
+    assert_eq!(morning(863_999, 1), Some(864_036));
+    assert_eq!(morning(864_059, 1), Some(864_095));
+    assert_eq!(morning(864_060, 1), None);
+}
+
+#[test]
+fn walk_across_midnight() {
+    // A metre from each junction to the next: a tick before midnight, two after it.
+    let network = OwnedNetwork {
+        junctions: 200,
+        fences: vec![0, 863_000],
+        tails: (0..199).collect(),
+        heads: (1..200).collect(),
+        lengths: vec![1; 199],
+        speeds: [18, 36].repeat(199),
+    };
+    // Junction 100 is reached at midnight itself, and left in the first interval.
+    let before = 863_900..864_000;
+    let after = (864_000..).step_by(2);
+    let expected: Vec<u32> = before.chain(after).take(200).collect();
+    let mut labels = [0; 200];
+    let mut predecessors = [0; 200];
+    let reply = cabinet::labels(&network.lent(), 0, 863_900, &mut labels, &mut predecessors);
+    assert_eq!(reply, Ok(()));
+    assert_eq!(labels[..], expected);
+    assert_answered([
+        answers::labels(&network, (0, 863_900), (200, 200)),
+        answers::route(&network, (0, 863_900), 199, 199),
+    ]);
+}
+
+#[test]
+fn equal_arrivals_after_midnight() {
+    // Arcs 0 and 1 into junction 2 stand still from tick 100 to midnight, and whoever
+    // leaves them meanwhile arrives at 864,001; the lower number counts.
+    let network = OwnedNetwork {
+        junctions: 3,
+        fences: vec![0, 100],
+        tails: vec![1, 0, 0],
+        heads: vec![2, 2, 1],
+        lengths: vec![1; 3],
+        speeds: vec![36, 0, 36, 0, 36, 36],
+    };
+    for (departure, expected, predecessor) in [
+        (98, [98, 99, 99], 1),
+        (99, [99, 100, 100], 1),
+        (100, [100, 101, 864_001], 0),
+        (863_999, [863_999, 864_000, 864_001], 0),
+    ] {
+        let mut labels = [0; 3];
+        let mut predecessors = [0; 3];
+        let reply = cabinet::labels(
+            &network.lent(),
+            0,
+            departure,
+            &mut labels,
+            &mut predecessors,
+        );
+        assert_eq!(reply, Ok(()));
+        assert_eq!(labels, expected);
+        assert_eq!(predecessors, [NO_ARC, 2, predecessor]);
+        assert_answered([answers::labels(&network, (0, departure), (3, 3))]);
     }
 }
 
@@ -226,6 +342,7 @@ fn towns_of_fixed_size() {
         let network = &town.network;
         let junctions = network.junctions as usize;
         let start = (SOURCE, DEPARTURE);
+        let evening = (SOURCE, EVENING);
         let departures = departures();
         // Without names there is room for the question.
         let sheet_input = [question_line(SOURCE, &departures), town_text(network, &[])].concat();
@@ -234,6 +351,8 @@ fn towns_of_fixed_size() {
             answers::network_check(network),
             answers::labels(network, start, (junctions, junctions)),
             answers::route(network, start, town.destination(), junctions),
+            answers::labels(network, evening, (junctions, junctions)),
+            answers::route(network, evening, town.destination(), junctions),
             answers::sheet(
                 network,
                 SOURCE,
@@ -247,9 +366,26 @@ fn towns_of_fixed_size() {
                 answers::load(&town.text, exact),
                 answers::name(&town.text, town.destination()),
                 answers::host_question(&town.text, start, town.destination()),
+                answers::host_question(&town.text, evening, town.destination()),
                 answers::program(&SHEET, &sheet_input),
             ]);
         }
+    }
+}
+
+#[test]
+fn evenings_in_towns_of_fixed_size() {
+    for town in Town::NAMES.into_iter().filter_map(Town::named) {
+        let network = town.network.lent();
+        let mut labels = vec![0; network.junctions as usize];
+        let mut predecessors = vec![0; network.junctions as usize];
+        let reply = cabinet::labels(&network, SOURCE, EVENING, &mut labels, &mut predecessors);
+        assert_eq!(reply, Ok(()));
+        let after_midnight = labels
+            .iter()
+            .filter(|&label| (DAY..UNREACHED).contains(label))
+            .count();
+        assert!(2 * after_midnight > labels.len(), "{}", town.name);
     }
 }
 

@@ -85,6 +85,16 @@ fn improvement() {
 }
 
 #[test]
+fn day_later() {
+    run(&properties::DAY_LATER);
+}
+
+#[test]
+fn labels_rotated() {
+    run(&properties::LABELS_ROTATED);
+}
+
+#[test]
 fn sheet_by_labels() {
     run(&properties::SHEET_BY_LABELS);
 }

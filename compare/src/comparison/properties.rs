@@ -1,8 +1,10 @@
 //! Properties of the library's own answers, reckoned without the reference:
-//! tick by tick and walk by walk, as document 01 defines arrivals and labels.
+//! tick by tick and walk by walk, as the documents define arrivals and labels.
 
+mod midnight;
 mod sheets;
 
+pub use midnight::{DAY_LATER, LABELS_ROTATED};
 pub use sheets::{SHEET_BY_LABELS, SHEET_SHUFFLED, SHEET_TWICE};
 
 use super::answers::{shown, shown_arc};
@@ -13,7 +15,7 @@ use crate::inputs::networks::{
     small_network,
 };
 use crate::inputs::{OwnedNetwork, Random};
-use crate::reference::limits::{LAST_TICK, NO_ARC, UNREACHED};
+use crate::reference::limits::{DAY, LAST_TICK, NO_ARC, UNREACHED};
 
 pub const NON_PASSING: Check = Check {
     name: "non-passing",
@@ -91,12 +93,20 @@ fn driven(arrival: u32) -> Outcome {
     }
 }
 
-/// Adds up the speed of each tick until the length is covered.
+/// Adds up the speed of each tick until the length is covered; it is that of the
+/// interval that contains the tick's remainder by the day.
 fn arrival_by_ticks(departure: u32, length: u32, fences: &[u32], speeds: &[u8]) -> Option<u32> {
     let mut interval = 0;
     let mut spans = 0;
     for tick in departure..LAST_TICK {
-        while fences.get(interval + 1).is_some_and(|&next| next <= tick) {
+        let remainder = tick % DAY;
+        if remainder == 0 {
+            interval = 0;
+        }
+        while fences
+            .get(interval + 1)
+            .is_some_and(|&next| next <= remainder)
+        {
             interval += 1;
         }
         spans += u32::from(speeds[interval]);

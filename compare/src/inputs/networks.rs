@@ -33,6 +33,38 @@ impl OwnedNetwork {
         self.tails.len()
     }
 
+    /// The same streets on a day that starts at this tick of the present one: each
+    /// speed is in force as many ticks earlier, and what was before the start comes
+    /// at the end. There is a fence more unless one stands at the start.
+    pub fn with_day_from(&self, start: u32) -> Self {
+        let mut fences: Vec<u32> = self
+            .fences
+            .iter()
+            .map(|&fence| (fence + DAY - start) % DAY)
+            .collect();
+        fences.push(0);
+        fences.sort_unstable();
+        fences.dedup();
+        let present = |&fence: &u32| self.interval_at((fence + start) % DAY);
+        let intervals: Vec<usize> = fences.iter().map(present).collect();
+        let network = self.lent();
+        let speeds = (0..self.arcs()).flat_map(|arc| {
+            let speeds = network.arc_speeds(arc);
+            intervals.iter().map(move |&interval| speeds[interval])
+        });
+        Self {
+            speeds: speeds.collect(),
+            fences,
+            ..self.clone()
+        }
+    }
+
+    /// The interval that contains a tick of the day.
+    fn interval_at(&self, tick: u32) -> usize {
+        let last = self.fences.iter().rposition(|&fence| fence <= tick);
+        last.expect("the first fence is 0")
+    }
+
     pub(super) fn insert_arc(&mut self, place: usize, arc: Arc) {
         let first_speed = place * self.fences.len();
         self.tails.insert(place, arc.tail);
@@ -141,14 +173,21 @@ fn random_intervals(random: &mut Random) -> usize {
     random.up_to_one_of(&[4, 20, MAX_INTERVALS as u32]) as usize
 }
 
+/// Fences from the day's start on; often the later ones stand at its end instead,
+/// so that intervals are short on both sides of midnight.
 fn random_fences(random: &mut Random, intervals: usize) -> Vec<u32> {
     let gap = random.pick(&[1, 50, 9_000]);
     let mut fences = vec![0; intervals];
     for interval in 1..intervals {
         fences[interval] = fences[interval - 1] + 1 + random.below(gap);
     }
-    if intervals > 1 && random.one_in(8) {
-        fences[intervals - 1] = DAY - 1;
+    if intervals > 1 && random.one_in(2) {
+        let first_late = 1 + random.index(intervals - 1);
+        let room = DAY - 1 - fences[intervals - 1];
+        let shift = room.saturating_sub(random.pick(&[0, 1, 50]));
+        for fence in &mut fences[first_late..] {
+            *fence += shift;
+        }
     }
     fences
 }
@@ -162,13 +201,14 @@ pub fn random_arc(random: &mut Random) -> (u32, Vec<u32>, Vec<u8>) {
     (length, fences, scale.speeds(random, intervals))
 }
 
-/// A departure below the day, often at or beside a fence.
+/// A departure below the day, often at or beside a fence or shortly before midnight.
 pub fn random_departure(random: &mut Random, fences: &[u32]) -> u32 {
-    let departure = match random.below(4) {
+    let departure = match random.below(5) {
         0 => random.below(100),
         1 => random.below(DAY),
         2 => (random.pick(fences) + random.below(3)).saturating_sub(1),
-        _ => DAY - 1 - random.below(100),
+        3 => DAY - 1 - random.below(100),
+        _ => DAY - 1 - random.below(3),
     };
     departure.min(DAY - 1)
 }
@@ -188,11 +228,13 @@ pub fn random_departures(random: &mut Random, fences: &[u32], count: usize) -> V
     departures
 }
 
-/// A departure up to the last tick, as Arc arrival takes it.
+/// A departure up to the last tick, as Arc arrival takes it, on either day alike.
 pub fn random_arc_departure(random: &mut Random, fences: &[u32]) -> u32 {
-    match random.below(3) {
+    match random.below(6) {
         0 => random.below(LAST_TICK + 1),
         1 => LAST_TICK - random.below(2_000),
+        2 => random.pick(&[DAY - 1, DAY, DAY + 1, LAST_TICK - 1, LAST_TICK]),
+        3 => DAY + random_departure(random, fences),
         _ => random_departure(random, fences),
     }
 }
@@ -227,5 +269,31 @@ pub fn random_towards(random: &mut Random, value: u32, bound: u32) -> u32 {
         value - step
     } else {
         value + step
+    }
+}
+
+#[cfg(test)]
+mod tests {
+    use super::*;
+
+    #[test]
+    fn rotates_speeds_with_the_start_of_the_day() {
+        let network = OwnedNetwork {
+            junctions: 3,
+            fences: vec![0, 100],
+            tails: vec![0, 1],
+            heads: vec![1, 2],
+            lengths: vec![50, 100],
+            speeds: vec![36, 18, 40, 20],
+        };
+        // The first interval is parted by the new midnight.
+        let rotated = network.with_day_from(60);
+        assert_eq!(rotated.fences, [0, 40, 863_940]);
+        assert_eq!(rotated.speeds, [36, 18, 36, 40, 20, 40]);
+        // A fence at the start parts none.
+        let rotated = network.with_day_from(100);
+        assert_eq!(rotated.fences, [0, 863_900]);
+        assert_eq!(rotated.speeds, [18, 36, 20, 40]);
+        assert_eq!(network.with_day_from(0), network);
     }
 }

@@ -16,6 +16,9 @@ pub struct Town {
 pub const SOURCE: u32 = 0;
 pub const DEPARTURE: u32 = 8 * 36_000;
 
+/// Ten minutes before midnight, so that most walks of every town cross it.
+pub const EVENING: u32 = DAY - 6_000;
+
 /// As many as a sheet takes, a quarter of an hour apart.
 pub fn departures() -> Vec<u32> {
     const STEP: u32 = DAY / MAX_DEPARTURES as u32;

@@ -1,5 +1,5 @@
 use super::Refusal;
-use super::limits::{LAST_TICK, SPANS_PER_METRE};
+use super::limits::{DAY, LAST_TICK, SPANS_PER_METRE};
 use super::network::{check_fence_count, check_fences, check_length, check_speeds};
 
 /// The tick of arrival on one arc, or `None` if it cannot be driven.
@@ -15,37 +15,52 @@ pub fn arc_arrival(
     check_length(length)?;
     check_speeds(speeds)?;
     Refusal::DEPARTURE_AFTER_LAST.unless(departure <= LAST_TICK)?;
-    let interval = interval_at(fences, departure);
-    Ok(drive(departure, interval, length, fences, speeds))
+    Ok(Departure::at(departure, fences).drive(length, fences, speeds))
 }
 
-/// The interval that contains the tick.
-pub(super) fn interval_at(fences: &[u32], tick: u32) -> usize {
-    // The first fence is 0, so at least one fence is not after the tick.
-    fences.partition_point(|&fence| fence <= tick) - 1
-}
-
-/// Drives a checked arc; `departure` lies in `interval`.
-pub(super) fn drive(
-    departure: u32,
+/// A tick at which arcs are left, and where in its day it lies.
+pub(super) struct Departure {
+    tick: u32,
+    /// The tick at which its day starts.
+    midnight: u32,
+    /// The interval that contains its remainder by the day.
     interval: usize,
-    length: u32,
-    fences: &[u32],
-    speeds: &[u8],
-) -> Option<u32> {
-    let mut tick = departure;
-    let mut remaining = SPANS_PER_METRE * length;
-    for (interval, &speed) in speeds.iter().enumerate().skip(interval) {
-        let end = fences.get(interval + 1).copied().unwrap_or(LAST_TICK);
-        let speed = u32::from(speed);
-        let covered = speed * (end - tick);
-        if remaining <= covered {
-            return Some(tick + remaining.div_ceil(speed));
+}
+
+impl Departure {
+    pub fn at(tick: u32, fences: &[u32]) -> Self {
+        let remainder = tick % DAY;
+        Self {
+            tick,
+            midnight: tick - remainder,
+            // The first fence is 0, so at least one fence is not after the remainder.
+            interval: fences.partition_point(|&fence| fence <= remainder) - 1,
         }
-        remaining -= covered;
-        tick = end;
     }
-    None
+
+    /// Drives a checked arc, day by day: at midnight its speeds start again.
+    pub fn drive(&self, length: u32, fences: &[u32], speeds: &[u8]) -> Option<u32> {
+        let mut tick = self.tick;
+        let mut remaining = SPANS_PER_METRE * length;
+        let mut midnight = self.midnight;
+        let mut first = self.interval;
+        // The last tick is itself a midnight, so no day reaches beyond it.
+        while midnight < LAST_TICK {
+            for (interval, &speed) in speeds.iter().enumerate().skip(first) {
+                let end = midnight + fences.get(interval + 1).copied().unwrap_or(DAY);
+                let speed = u32::from(speed);
+                let covered = speed * (end - tick);
+                if remaining <= covered {
+                    return Some(tick + remaining.div_ceil(speed));
+                }
+                remaining -= covered;
+                tick = end;
+            }
+            midnight += DAY;
+            first = 0;
+        }
+        None
+    }
 }
 
 #[cfg(test)]
@@ -66,13 +81,63 @@ mod tests {
         assert_eq!(arrival(1, &[0], &[200], 1_727_999), Some(1_728_000));
         assert_eq!(arrival(100_000, &[0], &[0], 0), None);
         assert_eq!(arrival(100_000, &[0], &[200], 0), Some(18_000));
-        assert_eq!(arrival(1, &[0, 863_999], &[0, 1], 0), Some(864_035));
+        // One span in the last tick of either day, where 36 are to be covered.
+        assert_eq!(arrival(1, &[0, 863_999], &[0, 1], 0), None);
     }
 
     #[test]
     fn adds_up_over_several_intervals() {
         // 72 spans: 10 in the first interval, none in the second, 62 at 20.
         assert_eq!(arrival(2, &[0, 10, 20], &[5, 0, 20], 8), Some(24));
+    }
+
+    #[test]
+    fn starts_again_at_midnight() {
+        // One metre in tick 99, the other in the first tick of the next day.
+        assert_eq!(arrival(2, &[0, 100], &[36, 0], 99), Some(864_001));
+        // 12 spans in the day's last tick, 24 left at 8 in the next day's first ones.
+        assert_eq!(arrival(1, &[0, 863_999], &[8, 12], 863_999), Some(864_003));
+        // Covered by midnight, so none of the next day's speeds count.
+        assert_eq!(arrival(1, &[0, 863_999], &[0, 36], 863_999), Some(864_000));
+        // 35 spans in the last tick of either day.
+        assert_eq!(
+            arrival(1, &[0, 863_999], &[0, 35], 863_999),
+            Some(1_728_000)
+        );
+        // The second day's 100 metres end at its fence.
+        assert_eq!(arrival(100, &[0, 100], &[36, 0], 863_999), Some(864_100));
+        assert_eq!(arrival(101, &[0, 100], &[36, 0], 863_999), None);
+    }
+
+    #[test]
+    fn takes_the_speed_of_the_remainder() {
+        let fences = [0, 10, 863_990];
+        let speeds = [36, 18, 12];
+        for (departure, ticks) in [(0, 1), (9, 1), (10, 2), (863_989, 3), (863_990, 3)] {
+            let first = arrival(1, &fences, &speeds, departure);
+            assert_eq!(first, Some(departure + ticks));
+            let second = arrival(1, &fences, &speeds, 864_000 + departure);
+            assert_eq!(second, Some(864_000 + departure + ticks));
+        }
+        // Two ticks at 12 before midnight and one at 36 after it; up to the last tick
+        // three at 12, or too few.
+        assert_eq!(arrival(1, &fences, &speeds, 863_998), Some(864_001));
+        assert_eq!(arrival(1, &fences, &speeds, 1_727_997), Some(1_728_000));
+        assert_eq!(arrival(1, &fences, &speeds, 1_727_998), None);
+        // Remainder 0, but nothing is driven after the last tick.
+        assert_eq!(arrival(1, &fences, &speeds, 1_728_000), None);
+    }
+
+    #[test]
+    fn meets_the_same_interval_twice() {
+        // Ten metres in ten ticks of each day, and standing still in all others.
+        let fences = [0, 1_000, 1_010];
+        let speeds = [0, 36, 0];
+        assert_eq!(arrival(15, &fences, &speeds, 0), Some(865_005));
+        assert_eq!(arrival(15, &fences, &speeds, 1_005), Some(865_010));
+        assert_eq!(arrival(15, &fences, &speeds, 1_006), None);
+        assert_eq!(arrival(20, &fences, &speeds, 1_000), Some(865_010));
+        assert_eq!(arrival(21, &fences, &speeds, 0), None);
     }
 
     #[test]

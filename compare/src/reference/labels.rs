@@ -1,7 +1,7 @@
 use std::cmp::Reverse;
 use std::collections::BinaryHeap;
 
-use super::arc::{drive, interval_at};
+use super::arc::Departure;
 use super::limits::{DAY, NO_ARC, UNREACHED};
 use super::{Network, Refusal, network_check};
 
@@ -62,7 +62,7 @@ impl<'n> Search<'n> {
             if tick > labels[usize::from(tail)] {
                 continue; // an earlier arrival at the tail was settled before
             }
-            let interval = interval_at(network.fences, tick);
+            let start = Departure::at(tick, network.fences);
             for &arc in self.arcs_out.of(tail) {
                 let head = network.heads[arc];
                 let label = &mut labels[usize::from(head)];
@@ -72,7 +72,7 @@ impl<'n> Search<'n> {
                 }
                 let length = network.lengths[arc];
                 let speeds = network.arc_speeds(arc);
-                let Some(arrival) = drive(tick, interval, length, network.fences, speeds) else {
+                let Some(arrival) = start.drive(length, network.fences, speeds) else {
                     continue;
                 };
                 if arrival < *label {
@@ -161,6 +161,46 @@ mod tests {
         let (ticks, predecessors) = labelled(&network, 0, 0);
         assert_eq!(ticks, [0, 1, 2]);
         assert_eq!(predecessors, [NO_ARC, 3, 1]);
+    }
+
+    #[test]
+    fn leaves_at_midnight_in_the_first_interval() {
+        // Ten ticks before midnight and ten metres: junction 1 is reached at it. There
+        // the next metre takes three ticks at 12; at the evening's 36 it would take one.
+        let network = Network {
+            junctions: 3,
+            fences: &[0, 863_000],
+            tails: &[0, 1],
+            heads: &[1, 2],
+            lengths: &[10, 1],
+            speeds: &[1, 36, 12, 36],
+        };
+        let (ticks, predecessors) = labelled(&network, 0, 863_990);
+        assert_eq!(ticks, [863_990, 864_000, 864_003]);
+        assert_eq!(predecessors, [NO_ARC, 0, 1]);
+    }
+
+    #[test]
+    fn settles_the_second_day_after_the_first() {
+        // The short arc 0 stands still from tick 100 to midnight. Until shortly before
+        // midnight the way by junction 1 is there first.
+        let network = Network {
+            junctions: 3,
+            fences: &[0, 100],
+            tails: &[0, 0, 1],
+            heads: &[2, 1, 2],
+            lengths: &[1, 50, 50],
+            speeds: &[36, 0, 36, 36, 36, 36],
+        };
+        let (ticks, predecessors) = labelled(&network, 0, 99);
+        assert_eq!(ticks, [99, 149, 100]);
+        assert_eq!(predecessors, [NO_ARC, 1, 0]);
+        let (ticks, predecessors) = labelled(&network, 0, 100);
+        assert_eq!(ticks, [100, 150, 200]);
+        assert_eq!(predecessors, [NO_ARC, 1, 2]);
+        let (ticks, predecessors) = labelled(&network, 0, 863_950);
+        assert_eq!(ticks, [863_950, 864_000, 864_001]);
+        assert_eq!(predecessors, [NO_ARC, 1, 0]);
     }
 
     #[test]

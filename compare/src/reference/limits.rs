@@ -1,8 +1,9 @@
 //! The constants of documents 01 and 02.
 
-/// Ticks in a day; fences and departures of a question lie below it.
+/// Ticks in a day, after which the speeds start again; fences and departures of a
+/// question lie below it.
 pub const DAY: u32 = 864_000;
-/// The last tick at which an arrival counts.
+/// The last tick at which an arrival counts, the end of the second day.
 pub const LAST_TICK: u32 = 1_728_000;
 
 pub const SPANS_PER_METRE: u32 = 36;

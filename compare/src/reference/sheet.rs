@@ -105,19 +105,20 @@ mod tests {
 
     #[test]
     fn counts_the_departures_that_reach_it_alone() {
-        // From tick 100 on the arc cannot be driven.
+        // A metre in each of the ticks 10 to 109 of a day. Who leaves after them on the
+        // first day has 100 metres for a length of 101; who leaves at 109 has one more.
         let network = Network {
             junctions: 2,
-            fences: &[0, 100],
+            fences: &[0, 10, 110],
             tails: &[0],
             heads: &[1],
-            lengths: &[1],
-            speeds: &[36, 0],
+            lengths: &[101],
+            speeds: &[0, 36, 0],
         };
-        let (labels, figures) = filled(&network, 0, &[100, 99, 863_999, 0]);
+        let (labels, figures) = filled(&network, 0, &[110, 109, 863_999, 0]);
         let late = UNREACHED;
-        assert_eq!(labels, [100, late, 99, 100, 863_999, late, 0, 1]);
-        assert_eq!(figures, [4, 0, 0, 0, 2, 1, 1, 2]);
+        assert_eq!(labels, [110, late, 109, 864_110, 863_999, late, 0, 864_011]);
+        assert_eq!(figures, [4, 0, 0, 0, 2, 864_001, 864_011, 1_728_012]);
     }
 
     #[test]

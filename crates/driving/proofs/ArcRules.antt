@@ -1,21 +1,19 @@
 -- Arc arrival's rules: no test fires exactly where the plain rules hold, and then the engine, from the departure's interval on, gives
 -- the reply.
-use Prim.Native.Nat.{ℕ, _+_, _-_, _<_}
+use Prim.Native.Nat.{ℕ, _<_}
 use mathlib.Core.Path.{_≡_, refl, sym, ap, _∙_}
 use mathlib.Core.Bool.{not}
 use mathlib.Core.List.{List}
 use mathlib.Core.Option.{Option}
-use native.Mathlib.Omega.{arith}
 use lib.Dec.{eqb}
 use lib.ListN.{length}
 use borrow.Author.Tests.{not-false, eqb-true, ltb-false, eq-eqb, le-ltb}
 use Rattle.model.specs.Ticks.{last, tick?, arrivedAt}
 use Rattle.model.specs.declared.tick.Arrival.{Arrival}
 use Rattle.model.specs.Flow.{spansOf, arrival}
-use Rattle.model.specs.Intervals.{passed, speedAt}
+use Rattle.model.specs.Intervals.{FencesKept, intervalOf, speedAt}
 use Rattle.model.specs.Rules.{AllKept, replied, firstBroken, fencesKeep, lengthKeeps}
 use Rattle.model.proofs.Rules.{kept-replies, replies-kept, kept-count, count-kept, kept-length, length-kept, kept-speeds, speeds-kept, fences-kept, kept-fences}
-use Rattle.model.proofs.IntervalPieces.{some-passed}
 use Rattle.driving.specs.ArcKept.{ArcKept}
 use Rattle.driving.specs.ArcArrival.{arcRules, arcArrival, ArcAccepted, ArcRepliesWhenAccepted}
 
@@ -54,24 +52,22 @@ module _ (departure metres : ℕ) (fences speeds : List ℕ) where
   replies : AllKept (arcRules departure metres fences speeds) → arcArrival departure metres fences speeds ≡ replied reply
   replies kept = by-rules ∙ kept-replies (arcRules departure metres fences speeds) reply kept
 
-  -- The engine is handed the interval before the fences that the departure has reached.
-  module _ (kept : AllKept (arcRules departure metres fences speeds)) {reached : ℕ} (counted : reached ≡ 0 + passed fences departure) where
-    abbrev accepted : ArcAccepted departure metres fences speeds
-    accepted = kept-accepted kept
+  -- The engine is handed the departure's interval.
+  module _ (kept : AllKept (arcRules departure metres fences speeds)) {interval : ℕ}
+      (found : FencesKept fences → 0 < length fences → interval ≡ intervalOf fences departure) where
+    arc-kept : ArcKept departure interval metres fences speeds
+    arc-kept =
+        let accepted = kept-accepted kept in
+        record {
+          in-time = accepted .in-time;
+          in-interval = found (accepted .fences-kept) (accepted .some-interval);
+          some-length = accepted .some-length;
+          some-interval = accepted .some-interval;
+          fences-kept = accepted .fences-kept;
+          as-many = accepted .as-many;
+        }
 
-    pub some-reached : 0 < reached
-    some-reached = omega (arith, counted, some-passed fences departure (accepted .fences-kept) (accepted .some-interval))
-
-    arc-kept : ArcKept departure (reached - 1) metres fences speeds
-    arc-kept = record {
-      in-time = accepted .in-time;
-      in-interval = omega (arith, counted, some-reached);
-      some-length = accepted .some-length;
-      fences-kept = accepted .fences-kept;
-      as-many = accepted .as-many;
-    }
-
-    pub engine-replies : {driven told : Arrival} → (ArcKept departure (reached - 1) metres fences speeds → arrivedAt driven ≡ reply) → driven ≡ told →
+    pub engine-replies : {driven told : Arrival} → (ArcKept departure interval metres fences speeds → arrivedAt driven ≡ reply) → driven ≡ told →
         replied (arrivedAt told) ≡ arcArrival departure metres fences speeds
     engine-replies promise same = ap (λ a. replied (arrivedAt a)) (sym same) ∙ ap replied (promise arc-kept) ∙ sym (replies kept)
 

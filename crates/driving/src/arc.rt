@@ -2,7 +2,7 @@
 ghost use mathlib.Core.Path.{_≡_};
 ghost use Rattle.driving.specs.ArcArrival.{arcArrival, outcomeOf};
 use crate::drive::drive;
-use crate::drive::fences_passed;
+use crate::interval::interval_of;
 use checking::rule::fences_keep;
 use checking::rule::interval_count_keeps;
 use checking::rule::length_keeps;
@@ -40,7 +40,7 @@ pub fn arc_arrival(departure: Tick, metres: u32, fences: &[u32], speeds: &[u8]) 
     if Tick::LAST < tick {
         return ArcArrival::Refused(Refusal::DepartureAfterLast);
     }
-    let interval = fences_passed(fences, 0, tick) - 1;
+    let interval = interval_of(fences, 0, tick);
     match drive(tick, interval, metres, fences, speeds) {
         Arrival::At(arrival) => ArcArrival::At(arrival),
         Arrival::Never => ArcArrival::CannotBeDriven,

@@ -1,52 +1,60 @@
--- The intervals as pieces of constant speed. From a tick up to the next fence, or to the last tick where there is none, no fence is
--- reached, so that the interval stays the same; at the next fence it is the next.
-use Prim.Native.Nat.{ℕ, suc, _≤_, _<_}
-use mathlib.Core.Path.{_≡_}
-use mathlib.Core.List.{List, [], _∷_}
+-- The intervals as pieces of constant speed, on any day. From a time of day up to the next fence, or to midnight where there is none, no fence
+-- is reached, so that the interval stays the same; at a fence it is the one that starts there.
+use Prim.Native.Nat.{ℕ, suc, _+_, _-_, _*_, _≤_, _<_}
+use mathlib.Core.Path.{_≡_, ap, _∙_}
+use mathlib.Core.List.{List}
 use mathlib.Core.Logic.{⊎-elim}
-use native.Mathlib.Nat.{le-antisymm}
+use native.Mathlib.Nat.{le-refl, le-antisymm, mod-eq-of-lt, mul-add-mod-self-right}
 use native.Mathlib.Omega.{arith}
 use lib.ListN.{length, getD, List·getD-eq-default}
-use borrow.Author.Tests.{le-leb}
-use Rattle.model.specs.Ticks.{last}
+use Rattle.model.specs.Ticks.{day, last}
 use Rattle.model.specs.Flow.{Piece}
-use Rattle.model.specs.Intervals.{FencesKept, passed, interval, speedAt}
+use Rattle.model.specs.Intervals.{FencesKept, timeOfDay, passed, intervalOf, speedAt}
 use Rattle.model.proofs.Tests.{ltb-cases}
 use Rattle.model.proofs.Entries.{getD-inside}
-use Rattle.model.proofs.Passed.{passed-monotone, passed-one-more, passed-before, next-no-earlier}
+use Rattle.model.proofs.Passed.{passed-monotone, passed-before, next-no-earlier, reached-counted}
 
--- The first fence is 0, so every tick has reached one.
-pub some-passed : (fences : List ℕ) (t : ℕ) → FencesKept fences → 0 < length fences → 0 < passed fences t
-unfolding passed
-some-passed [] t kept some-fence = absurd (omega arith)
-some-passed (f ∷ fs) t kept some-fence = rw (le-leb f t (omega (arith, kept .first-is-0))) (omega arith)
+-- The first fence is 0, so every time of day has reached one.
+pub some-passed : (fences : List ℕ) (time : ℕ) → FencesKept fences → 0 < length fences → 0 < passed fences time
+some-passed fences time kept some-fence = reached-counted fences (kept .rising) 0 time some-fence (omega (arith, kept .first-is-0))
 
--- A tick in interval k, which ends at the next fence, or at the last tick where there is none.
-module _ (fences : List ℕ) (kept : FencesKept fences) (at k : ℕ) (in-time : at ≤ last) (in-interval : suc k ≡ passed fences at) where
-  end-no-earlier : at ≤ getD fences (suc k) last
-  end-no-earlier = rw in-interval (next-no-earlier fences at last in-time)
+-- At a fence it is counted with those before it, and no other.
+pub counted-at-fence : (fences : List ℕ) → FencesKept fences → (k : ℕ) → k < length fences → suc k ≡ passed fences (getD fences k 0)
+counted-at-fence fences kept k inside =
+    le-antisymm
+    (reached-counted fences (kept .rising) k (getD fences k 0) inside (le-refl (getD fences k 0)))
+    (passed-before fences (getD fences k 0) (suc k) 0 (kept .rising k))
 
-  end-in-time : getD fences (suc k) last ≤ last
-  end-in-time =
+-- The time of day of a tick that is given by its day and its time of day.
+time-on : (d time : ℕ) → time < day → timeOfDay (d * day + time) ≡ time
+time-on d time in-day = mul-add-mod-self-right d day time ∙ mod-eq-of-lt in-day
+
+-- A time of day in interval k, which ends at the next fence, or at midnight where there is none.
+module _ (fences : List ℕ) (kept : FencesKept fences) (time k : ℕ) (in-day : time < day) (in-interval : suc k ≡ passed fences time) where
+  end-no-earlier : time ≤ getD fences (suc k) day
+  end-no-earlier = rw in-interval (next-no-earlier fences time day (omega arith))
+
+  end-in-day : getD fences (suc k) day ≤ day
+  end-in-day =
       ⊎-elim
-      (λ w. omega (arith, kept .below-day (suc k) (w .1), getD-inside fences (suc k) last 0 (w .1)))
-      (λ w. omega (arith, List·getD-eq-default fences last (w .1)))
+      (λ w. omega (arith, kept .below-day (suc k) (w .1), getD-inside fences (suc k) day 0 (w .1)))
+      (λ w. omega (arith, List·getD-eq-default fences day (w .1)))
       (ltb-cases (suc k) (length fences))
 
-  same-interval : (t : ℕ) → at ≤ t → t < getD fences (suc k) last → interval fences t ≡ k
-  unfolding interval
-  same-interval t from before = omega (arith, passed-monotone fences at t from, passed-before fences t (suc k) last (λ _. before))
+  -- day d, which ends by the last tick
+  module _ (d : ℕ) (by-last : d * day + day ≤ last) where
+    same-interval : (t : ℕ) → d * day + time ≤ t → t < d * day + getD fences (suc k) day → intervalOf fences t ≡ k
+    unfolding intervalOf
+    same-interval t from before =
+        let later : t ≡ d * day + (t - d * day) = omega arith in
+        let at : timeOfDay t ≡ t - d * day = ap timeOfDay later ∙ time-on d (t - d * day) (omega (arith, end-in-day)) in
+        let reached = ap (passed fences) at in
+        omega (arith, passed-monotone fences time (t - d * day) (omega arith), passed-before fences (t - d * day) (suc k) day (λ _. omega arith))
 
-  pub next-interval : suc k < length fences → suc (suc k) ≡ passed fences (getD fences (suc k) last)
-  next-interval more =
-      le-antisymm
-      (rw in-interval (passed-one-more fences at (getD fences (passed fences at) last) last (rw (← in-interval) end-no-earlier) (omega arith) (omega arith)))
-      (passed-before fences (getD fences (suc k) last) (suc (suc k)) 0 (λ h. rw (getD-inside fences (suc k) last 0 more) (kept .rising (suc k) h)))
-
-  pub interval-is-piece : (speeds : List ℕ) → Piece (speedAt fences speeds) at (getD fences (suc k) last) (getD speeds k 0)
-  unfolding speedAt
-  interval-is-piece speeds = record {
-    forward = end-no-earlier;
-    in-time = omega (arith, end-in-time);
-    steady = λ t from before. rw (same-interval t from before);
-  }
+    pub interval-is-piece : (speeds : List ℕ) → Piece (speedAt fences speeds) (d * day + time) (d * day + getD fences (suc k) day) (getD speeds k 0)
+    unfolding speedAt
+    interval-is-piece speeds = record {
+      forward = omega (arith, end-no-earlier);
+      in-time = omega (arith, end-in-day);
+      steady = λ t from before. rw (same-interval t from before);
+    }

@@ -14,6 +14,7 @@ pub mod Passed
 pub mod Pieces
 pub mod Predecessors
 pub mod Products
+pub mod Repeating
 pub mod Routes
 pub mod Rules
 pub mod Tests

@@ -7,10 +7,10 @@ use native.Mathlib.Decide.{decLt}
 use native.Mathlib.Omega.{arith}
 use lib.ListN.{length, getD, drop, length-take, List·getD-eq-default}
 use Rattle.model.specs.Flow.{spansOf}
-use Rattle.model.specs.Intervals.{interval, speedAt}
+use Rattle.model.specs.Intervals.{intervalOf, speedAt}
 use Rattle.model.specs.Walks.{Sound}
 use Rattle.model.specs.Network.{Network, Accepted, arcs, intervals, speedsOf, speedOn, driveOf, netOf}
-use Rattle.model.specs.Demands.{Improves}
+use Rattle.model.specs.Demands.{Improves, NoTickSlower}
 use Rattle.model.proofs.Arrival.{arrival-is-later, arrival-is-monotone, non-passing, arrival-by-last}
 use Rattle.model.proofs.Improvement.{Better}
 
@@ -38,17 +38,18 @@ module _ (A B : Network) (improves : Improves A B) where
           let short : length (speedsOf A a) ≤ k = omega (arith, length-take (intervals A) (drop (a * intervals A) (A .speeds))) in
           omega (arith, List·getD-eq-default (speedsOf A a) 0 short)
 
-  tick-no-slower : (a t : ℕ) → a < arcs A → speedOn A a t ≤ speedOn B a t
-  unfolding speedOn speedAt
-  tick-no-slower a t is-arc =
-      let same : interval (A .fences) t ≡ interval (B .fences) t = ap (λ (fences : List ℕ). interval fences t) (improves .same-fences) in
-      rw (← same) (speed-no-lower a (interval (A .fences) t) is-arc)
+pub no-tick-slower : NoTickSlower
+unfolding speedOn speedAt
+no-tick-slower A B improves a t is-arc =
+    let same : intervalOf (A .fences) t ≡ intervalOf (B .fences) t = ap (λ (fences : List ℕ). intervalOf fences t) (improves .same-fences) in
+    rw (← same) (speed-no-lower A B improves a (intervalOf (A .fences) t) is-arc)
 
+module _ (A B : Network) (improves : Improves A B) where
   pub drive-no-later : (a s t : ℕ) → a < arcs A → s ≤ t → driveOf B a s ≤ driveOf A a t
   unfolding driveOf
   drive-no-later a s t is-arc earlier =
       arrival-is-monotone (speedOn B a) (speedOn A a) (spansOf (getD (B .lengths) a 0)) (spansOf (getD (A .lengths) a 0)) s t earlier (omega (arith, improves .no-longer a is-arc))
-      (λ u. tick-no-slower a u is-arc)
+      (λ u. no-tick-slower A B improves a u is-arc)
 
   pub improves-better : Better (netOf A) (netOf B)
   improves-better = record {

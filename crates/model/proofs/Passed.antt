@@ -1,5 +1,5 @@
--- How many fences a tick has reached: it does not fall as ticks pass; the fences it counts can be dropped; the next one after
--- them lies ahead, and until it none is added.
+-- How many fences a time of day has reached: the number does not fall with time; the fences that it counts can be dropped; the next one
+-- after them lies ahead, and until it none is added; and with a fence that is reached, all before it are counted.
 use Prim.Native.Nat.{ℕ, zero, suc, _+_, _≤_, _<_, zero-le, suc-le-suc}
 use mathlib.Core.Path.{_≡_}
 use mathlib.Core.List.{List, [], _∷_}
@@ -20,7 +20,7 @@ passed-monotone (f ∷ fs) s t h =
     (λ w. rw (w .0) zero-le)
     (leb-cases f s)
 
--- A fence that is counted has been reached.
+-- After fences that are counted, the rest are counted on.
 pub passed-drop : (k : ℕ) (fences : List ℕ) (t : ℕ) → k ≤ passed fences t → passed (drop k fences) t + k ≡ passed fences t
 unfolding passed
 passed-drop zero fences t h = add-zero (passed fences t)
@@ -30,16 +30,6 @@ passed-drop (suc k) (f ∷ fs) t h =
     (λ w. rw (w .0, add-suc (passed (drop k fs) t) k, passed-drop k fs t (le-of-suc-le-suc (rw (w .0) at h))))
     (λ w. absurd (let none : suc k ≤ 0 = rw (w .0) at h in omega arith))
     (leb-cases f t)
-
--- At the next fence one more is counted.
-pub passed-one-more : (fences : List ℕ) (s t d : ℕ) → s ≤ t → passed fences s < length fences → getD fences (passed fences s) d ≤ t → passed fences s < passed fences t
-unfolding passed
-passed-one-more [] s t d h some reached = absurd (omega arith)
-passed-one-more (f ∷ fs) s t d h some reached =
-    ⊎-elim
-    (λ w. rw (w .0, le-leb f t (omega arith)) (suc-le-suc (passed-one-more fs s t d h (le-of-suc-le-suc (rw (w .0) at some)) (rw (w .0) at reached))))
-    (λ w. rw (w .0, le-leb f t (rw (w .0) at reached)) (suc-le-suc zero-le))
-    (leb-cases f s)
 
 -- Before a fence no more are counted than stand before it.
 pub passed-before : (fences : List ℕ) (t k d : ℕ) → (k < length fences → t < getD fences k d) → passed fences t ≤ k
@@ -57,3 +47,20 @@ pub next-no-earlier : (fences : List ℕ) (t d : ℕ) → t ≤ d → t ≤ getD
 unfolding passed
 next-no-earlier [] t d h = h
 next-no-earlier (f ∷ fs) t d h = ⊎-elim (λ w. rw (w .0) (next-no-earlier fs t d h)) (λ w. rw (w .0) (le-of-lt (w .1))) (leb-cases f t)
+
+-- A first fence that is counted has been reached.
+first-reached : (fences : List ℕ) (t : ℕ) → 0 < passed fences t → getD fences 0 0 ≤ t
+unfolding passed
+first-reached [] t some = absurd (omega arith)
+first-reached (f ∷ fs) t some = ⊎-elim (λ w. w .1) (λ w. absurd (let none : 0 < 0 = rw (w .0) at some in omega arith)) (leb-cases f t)
+
+-- Of fences that rise, one that is reached is counted, with those before it.
+pub reached-counted : (fences : List ℕ) → ((k : ℕ) → suc k < length fences → getD fences k 0 < getD fences (suc k) 0) →
+    (k t : ℕ) → k < length fences → getD fences k 0 ≤ t → k < passed fences t
+unfolding passed
+reached-counted [] rising k t inside reached = absurd (omega arith)
+reached-counted (f ∷ fs) rising zero t inside reached = rw (le-leb f t reached) (omega arith)
+reached-counted (f ∷ fs) rising (suc k) t inside reached =
+    let others = reached-counted fs (λ i h. rising (suc i) (suc-le-suc h)) k t (le-of-suc-le-suc inside) reached in
+    let before : f < getD fs 0 0 = rising 0 (omega arith) in
+    rw (le-leb f t (omega (arith, first-reached fs t (omega arith)))) (suc-le-suc others)

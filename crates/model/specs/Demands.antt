@@ -6,7 +6,7 @@ use mathlib.Core.List.{List}
 use mathlib.Core.Logic.{_↔_}
 use lib.ListN.{getD}
 use Rattle.model.specs.Ticks.{day, never}
-use Rattle.model.specs.Network.{Network, Accepted, arcs, intervals, speedsOf, netOf}
+use Rattle.model.specs.Network.{Network, Accepted, arcs, intervals, speedsOf, speedOn, netOf}
 use Rattle.model.specs.Walks.{Earliest}
 use Rattle.model.specs.Labels.{labelsOf, predecessorsOf, Certified, Lowest}
 
@@ -30,7 +30,8 @@ OnlyTablesOfNetwork = (N : Network) → Accepted N → (source departure : ℕ) 
 -- ---- When things get better
 
 -- The second network has all that the first has, and every change is for the better: more junctions and arcs, no arc longer, none
--- slower in any interval. The first network's junctions and arcs keep their numbers, and the second's further ones follow them.
+-- slower in any interval. The first network's junctions and arcs keep their numbers, and the second's further ones follow them. Document 02,
+-- order 2: "The rules on earliest arrival and on improvement speak of the repeating speeds." Both go by `speedOn`: see `NoTickSlower`.
 pub record Improves (A B : Network) : Type 0 where
   pub same-fences : A .fences ≡ B .fences
   pub more-junctions : A .junctions ≤ B .junctions
@@ -47,3 +48,7 @@ pub record GetsBetter (A B : Network) (early late : ℕ) : Type 0 where
   pub second-accepted : Accepted B
   pub improves : Improves A B
   pub leaves-no-later : early ≤ late
+
+-- Improved in every interval, an arc is slower at no tick of any day.
+abbrev pub NoTickSlower : Type 0
+NoTickSlower = (A B : Network) → Improves A B → (a t : ℕ) → a < arcs A → speedOn A a t ≤ speedOn B a t

@@ -1,8 +1,11 @@
 -- A town's network as its tables, the plain statement of its rules, and the net that it is.
-use Prim.Native.Nat.{ℕ, _*_, _≤_, _<_}
+use Prim.Native.Nat.{ℕ, _+_, _*_, _≤_, _<_}
 use mathlib.Core.Path.{_≡_}
+use mathlib.Core.Bool.{cond}
 use mathlib.Core.List.{List}
+use lib.Dec.{leb}
 use lib.ListN.{length, getD, take, drop}
+use Rattle.model.specs.Ticks.{day, last, never}
 use Rattle.model.specs.Limits.{maxJunctions, maxArcs, maxIntervals, maxLength, maxSpeed}
 use Rattle.model.specs.Flow.{spansOf, arrival}
 use Rattle.model.specs.Intervals.{FencesKept, speedAt}
@@ -75,3 +78,9 @@ netOf N = record {
   head = λ a. getD (N .heads) a 0;
   drive = driveOf N;
 }
+
+-- ---- What is proved of it
+
+-- Who leaves an arc's tail a day later arrives a day later, if that is by the last tick, and else never.
+abbrev pub DrivesRepeat : Type 0
+DrivesRepeat = (N : Network) (a t : ℕ) → driveOf N a (t + day) ≡ cond (leb (driveOf N a t + day) last) (driveOf N a t + day) never

@@ -1,4 +1,4 @@
-// The reckonings of document 01 that are run and not proved, each on a line with what the operation answers.
+// The reckonings of document 01 that are run and not proved, and others around midnight, each on a line with what the operation answers.
 ghost use mathlib.Core.Path.{_≡_};
 ghost use lib.ListN.{length};
 use driving::arc::ArcArrival;
@@ -7,8 +7,16 @@ use labelling::labels::Labelled;
 use labelling::labels::labels;
 use libc::STDOUT_FILENO;
 use model::tick::Tick;
+use refusals::refusal::Refusal;
 use routing::route::Routed;
 use routing::route::route;
+
+mod midnight;
+
+fn print_refusal(refusal: Refusal) {
+    io::write_all(STDOUT_FILENO, b" refused ");
+    io::print_decimal(STDOUT_FILENO, refusal.number() as u64);
+}
 
 fn print_arc(answer: ArcArrival) {
     match answer {
@@ -58,10 +66,7 @@ fn print_route(answer: Routed) {
             io::write_all(STDOUT_FILENO, b" arcs ");
             io::print_decimal(STDOUT_FILENO, count as u64);
         }
-        Routed::Refused(refusal) => {
-            io::write_all(STDOUT_FILENO, b" refused ");
-            io::print_decimal(STDOUT_FILENO, refusal.number() as u64);
-        }
+        Routed::Refused(refusal) => print_refusal(refusal),
     }
 }
 
@@ -94,10 +99,7 @@ fn print_labels_of_5(
             print_label(earliest[3], predecessors[3]);
             print_label(earliest[4], predecessors[4]);
         }
-        Labelled::Refused(refusal) => {
-            io::write_all(STDOUT_FILENO, b" refused ");
-            io::print_decimal(STDOUT_FILENO, refusal.number() as u64);
-        }
+        Labelled::Refused(refusal) => print_refusal(refusal),
     }
 }
 
@@ -344,4 +346,5 @@ fn main() {
     print_sample_with_room(0, 3);
     print_row_without_room();
     print_row_with_just_room();
+    midnight::print_rows();
 }

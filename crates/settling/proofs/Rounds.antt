@@ -1,14 +1,12 @@
 -- The labelling's loop. Whatever the tables, between two rounds the arcs are linked and the tables stand; where the question is taken,
 -- the settled junctions' arcs have offered too (`Between`). A round keeps this.
-use Prim.Native.Nat.{ℕ, suc, _+_, _-_, _≤_, _<_}
-use mathlib.Core.Path.{_≡_, _∙_}
+use Prim.Native.Nat.{ℕ, _<_}
+use mathlib.Core.Path.{_∙_}
 use mathlib.Core.Bool.{Bool}
 use mathlib.Core.List.{List}
 use native.Mathlib.Omega.{arith}
-use lib.ListN.{getD, drop}
-use Rattle.model.specs.Intervals.{passed}
+use lib.ListN.{getD}
 use Rattle.model.specs.Network.{Network}
-use Rattle.model.proofs.Passed.{passed-drop}
 use Rattle.checking.specs.Question.{Taken}
 use Rattle.fitting.specs.Fitting.{TablesFit}
 use Rattle.settling.specs.code.Linked.{Linked}
@@ -16,13 +14,12 @@ use Rattle.settling.specs.code.Offering.{Tables, Drivable}
 use Rattle.settling.specs.code.Rounds.{Settles}
 use Rattle.settling.proofs.Queue.{Waits, Nearest, ByLast}
 use Rattle.settling.proofs.Standing.{Standing, stands-settles, stands-offered}
-use Rattle.settling.proofs.Turns.{Round, labels-by-last, still-reached, first-of, next-later, turn-starts, turn-through, turn-ends}
+use Rattle.settling.proofs.Turns.{Round, labels-by-last, first-of, next-later, turn-starts, turn-through, turn-ends}
 
-pub record Between (N : Network) (source departure : ℕ) (first next : List ℕ) (settled : List Bool) (reached : ℕ) (t : Tables) : Type 0 where
+pub record Between (N : Network) (source departure : ℕ) (first next : List ℕ) (settled : List Bool) (t : Tables) : Type 0 where
   pub linked : Linked (N .tails) first next
-  pub some-reached : 1 ≤ reached
   pub standing : Standing (N .junctions) settled t
-  pub round : Taken N source departure → Round N source departure settled reached t
+  pub round : Taken N source departure → Round N source departure settled t
 
 module _ {N : Network} (fit : TablesFit N) where
   pub drivable : {first next : List ℕ} {settled : List Bool} {t : Tables} {junction : ℕ} → Linked (N .tails) first next → Standing (N .junctions) settled t →
@@ -42,22 +39,14 @@ module _ {N : Network} (fit : TablesFit N) where
     tournament = s .queued .tournament;
   }
 
-  module _ {source departure : ℕ} {first next : List ℕ} {settled : List Bool} {reached : ℕ} {t : Tables}
-      (b : Between N source departure first next settled reached t) {junction : ℕ} (inside : junction < 200)
+  module _ {source departure : ℕ} {first next : List ℕ} {settled : List Bool} {t : Tables}
+      (b : Between N source departure first next settled t) {junction : ℕ} (inside : junction < 200)
       (waits : Waits (t .labels) settled junction) (nearest : ByLast (t .labels) → Nearest (t .labels) settled junction) where
-    abbrev tick : ℕ
-    tick = getD (t .labels) junction 0
-
-    -- the fences that its label has reached: those of the junction before, and the rest
-    reached-now : Taken N source departure → reached + passed (drop reached (N .fences)) tick ≡ passed (N .fences) tick
-    reached-now q = omega (arith, passed-drop reached (N .fences) tick (still-reached q (b .round q) waits))
-
-    pub between-goes-on : {settled′ : List Bool} {u : Tables} {passes : ℕ} →
-        Settles junction reached passes (N .fences) (N .heads) (N .lengths) (N .speeds) first next settled settled′ t u →
-        Between N source departure first next settled′ passes u
-    between-goes-on {passes} s = rw (s .settled-is) (record {
+    pub between-goes-on : {settled′ : List Bool} {u : Tables} {interval : ℕ} →
+        Settles junction interval (N .fences) (N .heads) (N .lengths) (N .speeds) first next settled settled′ t u →
+        Between N source departure first next settled′ u
+    between-goes-on s = rw (s .settled-is) (record {
       linked = b .linked;
-      some-reached = omega (arith, b .some-reached, s .passes-is);
       standing = stands-offered
           (λ a h. fit .head-below a (omega (arith, fit .heads-long)))
           (λ a h more. omega (arith, next-later N (b .linked) a (omega (arith, fit .heads-long)) more .1, fit .heads-long))
@@ -65,9 +54,8 @@ module _ {N : Network} (fit : TablesFit N) where
           (λ some. omega (arith, first-of N (b .linked) inside some .0, fit .heads-long))
           (stands-settles (b .standing) inside (s .out));
       round = λ q.
-          let now-passed : passes ≡ passed (N .fences) tick = s .passes-is ∙ reached-now q in
-          let in-interval : suc (passes - 1) ≡ passed (N .fences) tick = omega (arith, b .some-reached, s .passes-is) in
+          let in-interval = s .interval-is (q .accepted .fences-kept) (q .accepted .some-interval) in
           let starts =
           turn-starts q (b .round q) (b .standing .settled-long) waits (nearest (labels-by-last q (b .round q))) (b .linked) in-interval in
-          turn-ends q (turn-through q (b .linked) (s .offered) (first-of N (b .linked) inside) starts) (omega arith);
+          turn-ends q (turn-through q (b .linked) (s .offered) (first-of N (b .linked) inside) starts);
     })

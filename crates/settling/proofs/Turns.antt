@@ -1,6 +1,5 @@
 -- The labelling of an accepted network, by its loops. Between the turns of the outer loop every arc of a settled junction has offered
--- (`Round`); between those of the inner loop the arcs of the settled junction before arc a have (`Turn`). The fences reached at the
--- last settled junction's tick are reached ever after.
+-- (`Round`); between those of the inner loop the arcs of the settled junction before arc a have (`Turn`).
 use Prim.Native.Nat.{ℕ, suc, _≤_, _<_}
 use mathlib.Core.Path.{_≡_, sym, _∙_}
 use mathlib.Core.Bool.{Bool, true, false, _&&_, cond}
@@ -13,14 +12,12 @@ use lib.Dec.{ltb, eqb}
 use lib.ListN.{length, getD, set, replicate, length-take, length-drop}
 use lib.Seq.{getD-set-same, getD-set-other}
 use Rattle.model.specs.Ticks.{last, never, tick?}
-use Rattle.model.specs.Intervals.{passed}
+use Rattle.model.specs.Intervals.{intervalOf}
 use Rattle.model.specs.Network.{Network, Accepted, arcs, intervals, speedOn, driveOf, netOf, arcSpeeds}
 use Rattle.model.specs.Labels.{noArc, labelsOf, predecessorsOf}
 use Rattle.model.proofs.Arrival.{arrival-by-last}
 use Rattle.model.proofs.Entries.{getD-inside, getD-all}
-use Rattle.model.proofs.IntervalPieces.{some-passed}
 use Rattle.model.proofs.Networks.{accepted-sound}
-use Rattle.model.proofs.Passed.{passed-monotone}
 use Rattle.model.proofs.Tests.{ltb-cases, eqb-cases}
 use Rattle.checking.specs.Question.{Taken}
 use Rattle.driving.specs.ArcKept.{ArcKept}
@@ -48,7 +45,7 @@ use Rattle.settling.proofs.Settling.{
 
 -- ---- The arc that an offer drives
 
-arc-kept : (N : Network) → Accepted N → (tick interval a : ℕ) → tick ≤ last → suc interval ≡ passed (N .fences) tick → a < arcs N →
+arc-kept : (N : Network) → Accepted N → (tick interval a : ℕ) → tick ≤ last → interval ≡ intervalOf (N .fences) tick → a < arcs N →
     ArcKept tick interval (getD (N .lengths) a 0) (N .fences) (arcSpeeds (N .fences) (N .speeds) a)
 arc-kept N accepted tick interval a in-time in-interval is-arc =
     let inside = arc-inside a (intervals N) (arcs N) is-arc in
@@ -57,6 +54,7 @@ arc-kept N accepted tick interval a in-time in-interval is-arc =
       in-time = in-time;
       in-interval = in-interval;
       some-length = accepted .some-length a is-arc;
+      some-interval = accepted .some-interval;
       fences-kept = accepted .fences-kept;
       as-many = as-many;
     }
@@ -66,21 +64,19 @@ arc-kept N accepted tick interval a in-time in-interval is-arc =
 abbrev Done : Network → List Bool → ℕ → Type 0
 Done N settled b = getD settled (getD (N .tails) b 0) false ≡ true
 
-pub record Round (N : Network) (source departure : ℕ) (settled : List Bool) (reached : ℕ) (t : Tables) : Type 0 where
+pub record Round (N : Network) (source departure : ℕ) (settled : List Bool) (t : Tables) : Type 0 where
   pub tick : ℕ
   pub settling : Settling (netOf N) source departure tick settled (Done N settled) (t .labels) (t .predecessors)
-  pub fences-reached : reached ≤ passed (N .fences) tick
 
 module _ {N : Network} {source departure : ℕ} (q : Taken N source departure) where
   pub round-starts : {t : Tables} → t .labels ≡ set (replicate (N .junctions) never) source departure →
-      t .predecessors ≡ replicate (N .junctions) noArc → Round N source departure (replicate 200 false) 1 t
+      t .predecessors ≡ replicate (N .junctions) noArc → Round N source departure (replicate 200 false) t
   round-starts l p = record {
     tick = departure;
     settling = settling-starts (q .source-below) (omega (arith, q .departure-below)) l p (getD-all 200 false) (λ b h d. d);
-    fences-reached = some-passed (N .fences) departure (q .accepted .fences-kept) (q .accepted .some-interval);
   }
 
-  module _ {settled : List Bool} {reached : ℕ} {t : Tables} (r : Round N source departure settled reached t) where
+  module _ {settled : List Bool} {t : Tables} (r : Round N source departure settled t) where
     pub labels-by-last : ByLast (t .labels)
     labels-by-last k h = reached-by-last (r .settling) (accepted-sound N (q .accepted)) k (omega (arith, r .settling .labels-long))
 
@@ -107,7 +103,7 @@ pub record Turn (N : Network) (source departure : ℕ) (settled : List Bool) (ju
   pub settling : Settling (netOf N) source departure tick settled (HasOffered N settled junction a) (t .labels) (t .predecessors)
   pub junction-settled : getD settled junction false ≡ true
   pub tick-is : getD (t .labels) junction never ≡ tick
-  pub interval-is : suc interval ≡ passed (N .fences) tick
+  pub interval-is : interval ≡ intervalOf (N .fences) tick
 
 -- The first arc of a tail from an arc on is none or an arc with that tail.
 arc-known : (N : Network) (junction p : ℕ) → p ≤ arcs N → {a : ℕ} → a ≡ arcFrom (N .tails) junction p → OfJunction N junction a
@@ -212,19 +208,9 @@ module _ (N : Network) {first next : List ℕ} (linked : Linked (N .tails) first
 -- ---- The inner loop's turns
 
 module _ {N : Network} {source departure : ℕ} (q : Taken N source departure) where
-  -- The fences reached at the last settled junction's tick are reached at that of the next, which is no earlier.
-  pub still-reached : {settled : List Bool} {reached junction : ℕ} {t : Tables} →
-      Round N source departure settled reached t → Waits (t .labels) settled junction →
-      reached ≤ passed (N .fences) (getD (t .labels) junction 0)
-  still-reached {junction} {t} r waits =
-      let is-junction : junction < N .junctions = omega (arith, r .settling .labels-long, waits .inside) in
-      let no-earlier = r .settling .ahead junction is-junction (waits .unsettled) in
-      rw (← getD-inside (t .labels) junction never 0 (waits .inside))
-      (omega (arith, r .fences-reached, passed-monotone (N .fences) (r .tick) (getD (t .labels) junction never) no-earlier))
-
-  pub turn-starts : {settled : List Bool} {t : Tables} {tree first next : List ℕ} {junction reached interval : ℕ} →
-      Round N source departure settled reached t → length settled ≡ 200 → Waits (t .labels) settled junction → Nearest (t .labels) settled junction →
-      Linked (N .tails) first next → suc interval ≡ passed (N .fences) (getD (t .labels) junction 0) →
+  pub turn-starts : {settled : List Bool} {t : Tables} {tree first next : List ℕ} {junction interval : ℕ} →
+      Round N source departure settled t → length settled ≡ 200 → Waits (t .labels) settled junction → Nearest (t .labels) settled junction →
+      Linked (N .tails) first next → interval ≡ intervalOf (N .fences) (getD (t .labels) junction 0) →
       Turn N source departure (set settled junction true) junction (getD (t .labels) junction 0) interval (getD first junction 0)
       (tables (t .labels) (t .predecessors) tree)
   turn-starts {settled} {t} {first} {junction} r settled-long waits nearest linked in-interval =
@@ -314,10 +300,9 @@ module _ {N : Network} {source departure : ℕ} (q : Taken N source departure) w
   turn-through linked (offers some waits (ArcOffered.offered on leaves) rest) is-arc turn =
       turn-through linked rest (next-of N linked (is-arc some)) (turn-offers linked turn (is-arc some) waits on leaves)
 
-  pub turn-ends : {settled : List Bool} {t : Tables} {junction tick interval reached : ℕ} →
-      Turn N source departure settled junction tick interval noArc t → reached ≤ passed (N .fences) tick → Round N source departure settled reached t
-  turn-ends {tick} turn reached = record {
+  pub turn-ends : {settled : List Bool} {t : Tables} {junction tick interval : ℕ} →
+      Turn N source departure settled junction tick interval noArc t → Round N source departure settled t
+  turn-ends {tick} turn = record {
     tick = tick;
     settling = settling-weakens (turn .settling) (λ b h d. (h, d, λ _. omega (arith, q .accepted .arcs-fit)));
-    fences-reached = reached;
   }

@@ -61,16 +61,16 @@ fn label_all(
     let mut settled = [false; MAX_JUNCTIONS];
     let mut tree = [UNREACHED; NODES];
     enter(&mut tree, source, key_of(departure, source));
-    // Every tick has reached the first fence.
-    let mut reached = 1;
+    // That of the junction settled before; the first one's is looked for from the day's start.
+    let mut interval = 0;
     loop {
         let key = least_key(&tree);
         if key == UNREACHED {
             break;
         }
-        reached = settle(
+        interval = settle(
             junction_of(key),
-            reached,
+            interval,
             fences,
             heads,
             lengths,

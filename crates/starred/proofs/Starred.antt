@@ -1,25 +1,25 @@
--- Every starred row holds: its rules are tests that compute, and so does its arrival, tick by tick, but for the row in which no tick of 1.7
--- million covers the length: there the law of the flow over a piece of constant speed gives it. The sample town's network is read off its
--- text, and its labels are computed from that network.
+-- Every starred row holds: its rules are tests that compute, and so does its arrival, tick by tick, but for the row that stands until
+-- midnight: there the law of the flow over a piece of constant speed gives it. The sample town's network is read off its text, and its labels
+-- are computed from that network.
 use Prim.Native.Nat.{ℕ, _<_}
 use mathlib.Core.Path.{_≡_, refl, sym, ap, subst, _∙_}
 use mathlib.Core.Bool.{true}
 use mathlib.Core.List.{List, [], _∷_, flatten}
-use mathlib.Core.Option.{none}
+use mathlib.Core.Option.{some}
 use native.Mathlib.Omega.{arith}
 use lib.Dec.{ltb}
 use lib.ListN.{getD}
 use borrow.Author.Tests.{ltb-true}
-use Rattle.model.specs.Ticks.{day, last, tick?}
+use Rattle.model.specs.Ticks.{day, tick?}
 use Rattle.model.specs.Flow.{covered, firstTick, arrival}
-use Rattle.model.specs.Intervals.{FencesKept, interval, passed, speedAt}
+use Rattle.model.specs.Intervals.{FencesKept, intervalOf, passed, speedAt}
 use Rattle.model.specs.Labels.{offer, offers, within, labelsOf}
 use Rattle.model.specs.Network.{Network, network, netOf, speedOn, driveOf}
 use Rattle.model.specs.NetworkRules.{endsKeep, networkCheck}
 use Rattle.model.specs.Rules.{replied, firstBroken, every, riseFrom, fencesKeep}
 use Rattle.model.proofs.IntervalPieces.{interval-is-piece}
 use Rattle.model.proofs.NetworkRules.{accepts-when-kept}
-use Rattle.model.proofs.Pieces.{arrival-over-piece, never-from-last}
+use Rattle.model.proofs.Pieces.{arrival-over-piece}
 use Rattle.model.proofs.Rules.{every-at, fences-kept}
 use Rattle.settling.specs.Labelable.{Labelable}
 use Rattle.labelling.proofs.LabelRules.{labels-replies-when-labelable}
@@ -35,10 +35,15 @@ use Rattle.townfile.specs.declared.progress.Progress.{Progress}
 use Rattle.townfile.proofs.Described.{describes-when-faultless}
 use Rattle.starred.specs.Rows.{Row, LabelsAre, Holds, _also_, no-more, sampleText, sampleWithoutComment, StarredRows}
 
--- An arc that comes to stand short of its end is never driven: its two intervals are pieces of constant speed, and the last tick ends them.
-standing-row : Holds (Row.arc 2 (0 ∷ 100 ∷ []) (36 ∷ 0 ∷ []) 99 none)
+-- From midnight on the first tick covers the rest.
+driven-on : arrival (speedAt (0 ∷ 100 ∷ []) (36 ∷ 0 ∷ [])) 36 day ≡ 864001
+unfolding speedAt intervalOf passed arrival firstTick covered
+driven-on = refl
+
+-- An arc that comes to stand short of its end is driven on after midnight: its two intervals are pieces of constant speed.
+standing-row : Holds (Row.arc 2 (0 ∷ 100 ∷ []) (36 ∷ 0 ∷ []) 99 (some 864001))
 unfolding arcArrival firstBroken every riseFrom fencesKeep passed
-standing-row = ap (λ (t : ℕ). replied (tick? t)) (moves ∙ stands ∙ never-from-last v 36 (omega arith))
+standing-row = ap (λ (t : ℕ). replied (tick? t)) (moves ∙ stands ∙ driven-on)
   where
     v : ℕ → ℕ
     v = speedAt (0 ∷ 100 ∷ []) (36 ∷ 0 ∷ [])
@@ -47,10 +52,10 @@ standing-row = ap (λ (t : ℕ). replied (tick? t)) (moves ∙ stands ∙ never-
     kept = fences-kept (0 ∷ 100 ∷ []) refl
 
     moves : arrival v 72 99 ≡ arrival v 36 100
-    moves = arrival-over-piece v 99 100 36 72 (interval-is-piece (0 ∷ 100 ∷ []) kept 99 0 (omega arith) refl (36 ∷ 0 ∷ [])) (omega arith)
+    moves = arrival-over-piece v 99 100 36 72 (interval-is-piece (0 ∷ 100 ∷ []) kept 99 0 (omega arith) refl 0 (omega arith) (36 ∷ 0 ∷ [])) (omega arith)
 
-    stands : arrival v 36 100 ≡ arrival v 36 last
-    stands = arrival-over-piece v 100 last 0 36 (interval-is-piece (0 ∷ 100 ∷ []) kept 100 1 (omega arith) refl (36 ∷ 0 ∷ [])) (omega arith)
+    stands : arrival v 36 100 ≡ arrival v 36 day
+    stands = arrival-over-piece v 100 day 0 36 (interval-is-piece (0 ∷ 100 ∷ []) kept 100 1 (omega arith) refl 0 (omega arith) (36 ∷ 0 ∷ [])) (omega arith)
 
 labels-are : (N : Network) (source departure : ℕ) (expected : List ℕ) → networkCheck N ≡ replied tt → source < N .junctions → departure < day →
     labelsOf (netOf N) source departure ≡ expected → LabelsAre N source departure expected
@@ -108,7 +113,7 @@ unfolding networkCheck firstBroken every riseFrom fencesKeep endsKeep
 sample-checked = refl
 
 sample-labels : labelsOf (netOf sampleNetwork) 0 10 ≡ 10 ∷ 60 ∷ 100 ∷ []
-unfolding labelsOf within offers offer driveOf speedOn speedAt interval passed arrival firstTick covered
+unfolding labelsOf within offers offer driveOf speedOn speedAt intervalOf passed arrival firstTick covered
 sample-labels = refl
 
 town-row : Holds (Row.town sampleText 0 10 (10 ∷ 60 ∷ 100 ∷ []))
@@ -132,7 +137,7 @@ unfolding pieces linesFrom firstFault
 empty-row = refused-text [] 27 1 refl
 
 pub starred-rows : StarredRows
-unfolding arcArrival firstBroken every riseFrom fencesKeep speedAt interval passed arrival firstTick covered
+unfolding arcArrival firstBroken every riseFrom fencesKeep speedAt intervalOf passed arrival firstTick covered
 starred-rows =
     refl
     also refl

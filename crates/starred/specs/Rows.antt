@@ -1,4 +1,5 @@
--- "Reckonings to keep. Starred ones form the proved set. A row is length; fences; speeds; departure; arrival."
+-- "Reckonings to keep. Starred ones form the proved set. A row is length; fences; speeds; departure; arrival." Document 02, order 2: "The
+-- starred row with length 2 and departure 99 now arrives at 864,001."
 use Prim.Native.Nat.{ℕ}
 use mathlib.Core.Path.{_≡_}
 use mathlib.Core.List.{List, [], _∷_, _++_}
@@ -74,7 +75,7 @@ starred =
     ∷ arc 1 (0 ∷ []) (10 ∷ []) 0 (some 4)
     ∷ arc 1 (0 ∷ 100 ∷ []) (0 ∷ 36 ∷ []) 10 (some 101)
     ∷ arc 1 (0 ∷ 100 ∷ []) (36 ∷ 0 ∷ []) 99 (some 100)
-    ∷ arc 2 (0 ∷ 100 ∷ []) (36 ∷ 0 ∷ []) 99 none
+    ∷ arc 2 (0 ∷ 100 ∷ []) (36 ∷ 0 ∷ []) 99 (some 864001)
     ∷ arc 1 (0 ∷ []) (1 ∷ []) 1727964 (some 1728000)
     ∷ arc 1 (0 ∷ []) (1 ∷ []) 1727965 none
     ∷ town sampleText 0 10 (10 ∷ 60 ∷ 100 ∷ [])

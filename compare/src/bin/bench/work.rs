@@ -2,7 +2,7 @@
 
 use std::hint::black_box;
 
-use compare::inputs::towns::{DEPARTURE, SOURCE, Town, departures};
+use compare::inputs::towns::{DEPARTURE, EVENING, SOURCE, Town, departures};
 use compare::operations::{CABINET, Operations, REFERENCE};
 use compare::reference::limits::{FIGURES, MAX_ARCS, MAX_INTERVALS, REFUSED};
 
@@ -10,15 +10,17 @@ use compare::reference::limits::{FIGURES, MAX_ARCS, MAX_INTERVALS, REFUSED};
 pub enum Operation {
     Load,
     Labels,
+    LabelsEvening,
     Route,
     Sheet,
     HostQuestion,
 }
 
 impl Operation {
-    pub const ALL: [Self; 5] = [
+    pub const ALL: [Self; 6] = [
         Self::Load,
         Self::Labels,
+        Self::LabelsEvening,
         Self::Route,
         Self::Sheet,
         Self::HostQuestion,
@@ -28,10 +30,15 @@ impl Operation {
         match self {
             Self::Load => "load",
             Self::Labels => "labels",
+            Self::LabelsEvening => "labels-evening",
             Self::Route => "route",
             Self::Sheet => "sheet",
             Self::HostQuestion => "host-question",
         }
+    }
+
+    fn takes_full_town(self) -> bool {
+        matches!(self, Self::Labels | Self::LabelsEvening | Self::Sheet)
     }
 }
 
@@ -83,7 +90,7 @@ impl Row {
         let mut rows = Vec::new();
         for operation in Operation::ALL {
             for town in Town::NAMES {
-                if town != "full" || matches!(operation, Operation::Labels | Operation::Sheet) {
+                if town != "full" || operation.takes_full_town() {
                     rows.extend(Self::named(operation.name(), town));
                 }
             }
@@ -96,7 +103,8 @@ impl Row {
         let operations = implementation.operations();
         match self.operation {
             Operation::Load => load(operations, &self.town),
-            Operation::Labels => labels(operations, &self.town),
+            Operation::Labels => labels(operations, &self.town, DEPARTURE),
+            Operation::LabelsEvening => labels(operations, &self.town, EVENING),
             Operation::Route => route(operations, &self.town),
             Operation::Sheet => sheet(operations, &self.town),
             Operation::HostQuestion => host_question(operations, &self.town),
@@ -123,7 +131,7 @@ fn load<'a>(operations: &'a Operations, town: &'a Town) -> Box<dyn FnMut() + 'a>
     })
 }
 
-fn labels<'a>(operations: &'a Operations, town: &'a Town) -> Box<dyn FnMut() + 'a> {
+fn labels<'a>(operations: &'a Operations, town: &'a Town, departure: u32) -> Box<dyn FnMut() + 'a> {
     let network = town.network.lent();
     let mut labels = vec![0; network.junctions as usize];
     let mut predecessors = vec![0; network.junctions as usize];
@@ -131,7 +139,7 @@ fn labels<'a>(operations: &'a Operations, town: &'a Town) -> Box<dyn FnMut() + '
         let reply = (operations.labels)(
             black_box(&network),
             SOURCE,
-            DEPARTURE,
+            departure,
             black_box(&mut labels),
             black_box(&mut predecessors),
         );

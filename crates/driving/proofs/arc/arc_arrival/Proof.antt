@@ -10,7 +10,7 @@ use Rattle.model.specs.declared.tick.Arrival.{Arrival}
 use Rattle.model.specs.Rules.{replied}
 use Rattle.checking.proofs.KeptSoFar.{KeptSoFar, none-asked, next-kept, next-refused}
 use Rattle.checking.proofs.Flags.{as-test}
-use Rattle.driving.proofs.ArcRules.{by-rules, some-reached, engine-replies}
+use Rattle.driving.proofs.ArcRules.{by-rules, engine-replies}
 use Rattle.driving.proofs.arc.arc_arrival.Statement.{statement}
 use Rattle.driving.proofs.arc.arc_arrival.Tie as tie
 
@@ -37,14 +37,9 @@ kept₅ c = next-kept (kept₄ (c .before .before)) (as-test (c .before .speeds-
 abbrev kept₆ : tie.Else6 → KeptSoFar 6
 kept₆ c = next-kept (kept₅ (c .before)) (le-ltb _ _ (c .if6 .left))
 
-sub-interval : tie.Need-sub-interval
-sub-interval c =
-    let a = c .before .before .before .before .before .before .before .before .before .before .before .before .before .args in
-    some-reached (a .departure .number) (a .metres) (now (a .fences)) (now (a .speeds)) (kept₆ (c .before) .kept) (c .fences-passed .ensures)
-
 -- What the engine gives is the reply.
 driven : (d : tie.After-drive) {told : Arrival} → d .drive .result ≡ told → replied (arrivedAt told) ≡ kept₆ (d .before .before) .answer
-driven d same = engine-replies _ _ _ _ (kept₆ (d .before .before) .kept) (d .before .fences-passed .ensures) (d .drive .ensures) same
+driven d same = engine-replies _ _ _ _ (kept₆ (d .before .before) .kept) (d .before .interval-of .ensures) (d .drive .ensures) same
 
 pub arc-arrival-spec : {M : Type 1} → statement M
 arc-arrival-spec =
@@ -61,7 +56,6 @@ arc-arrival-spec =
     (λ c. next-refused (kept₄ (c .before .before)) (as-test (c .before .speeds-keep .ensures) (c .if5 .taken)))
     (λ c. next-refused (kept₅ (c .before)) (lt-ltb _ _ (c .if6 .taken)))
     (λ c κs. search needs)
-    sub-interval
     (λ c κs. search needs)
     (λ c. search needs)
     (λ c. search needs)

@@ -20,11 +20,11 @@ use Rattle.settling.proofs.label.label_all.Statement.{statement}
 use Rattle.settling.proofs.label.label_all.Tie as tie
 
 abbrev Inv-loop : tie.InvT-loop
-Inv-loop junctions fences tails heads lengths speeds source departure labels₀ predecessors₀ first next settled₀ tree₀ reached₀ labels predecessors settled tree reached =
-    Between (network junctions fences tails heads lengths speeds) source departure first next settled reached (tables labels predecessors tree)
+Inv-loop junctions fences tails heads lengths speeds source departure labels₀ predecessors₀ first next settled₀ tree₀ interval₀ labels predecessors settled tree interval =
+    Between (network junctions fences tails heads lengths speeds) source departure first next settled (tables labels predecessors tree)
 
 abbrev μ-loop : tie.MeasureT-loop
-μ-loop junctions fences tails heads lengths speeds source departure labels₀ predecessors₀ first next settled₀ tree₀ reached₀ labels predecessors settled tree reached = waiting settled
+μ-loop junctions fences tails heads lengths speeds source departure labels₀ predecessors₀ first next settled₀ tree₀ interval₀ labels predecessors settled tree interval = waiting settled
 
 -- the start, from the places that follow it
 abbrev start : tie.After-clear Inv-loop μ-loop → tie.Start Inv-loop μ-loop
@@ -93,7 +93,6 @@ loop-holds c =
     let entered = c .enter .ensures (equal-keys never) (omega (arith, source-known s)) in
     record {
       linked = l .link-arcs .ensures;
-      some-reached = omega arith;
       standing = stands-first (s .pre .source-below) (s .pre .in-time) labels-are predecessors-are (c .before .key-of .ensures) entered;
       round = λ q. round-starts q labels-are predecessors-are;
     }
@@ -104,7 +103,6 @@ settle-requires c κs =
     let b = at-loop j .loop .inv in
     record {
       has-label = nearest j .0 .inside;
-      some-reached = b .some-reached;
       drivable = drivable (start-of (at-loop j) .pre .tables-fit) (b .linked) (b .standing) (below j);
     }
 

@@ -9,15 +9,15 @@ use Rattle.settling.proofs.settle.settle.Tie as tie
 abbrev start : tie.After-enter → tie.Start
 start c = c .before .before .before .before .before .before .before .before
 
-abbrev entered-at : tie.After-fences-passed → tie.After-enter
+abbrev entered-at : tie.After-interval-of → tie.After-enter
 entered-at c = c .before .before
 
-abbrev passed-at : tie.After-offer-arcs-arg5 → tie.After-fences-passed
-passed-at c = c .before .before .before .before .before
+abbrev found-at : tie.After-offer-arcs-arg5 → tie.After-interval-of
+found-at c = c .before .before .before .before .before
 
 offer-arcs-requires : tie.Need-offer-arcs-requires
 offer-arcs-requires c κs =
-    let e = entered-at (passed-at c) in
+    let e = entered-at (found-at c) in
     let pre = start e .pre in
     let out = e .enter .ensures (pre .drivable .tournament) (omega (arith, pre .has-label, pre .drivable .few-junctions)) in
     drivable-by (pre .drivable) (out .tournament)
@@ -25,12 +25,12 @@ offer-arcs-requires c κs =
 returns : tie.Need-returns
 returns c =
     let offering = c .before .before .before .before in
-    let f = passed-at (offering .before) in
+    let f = found-at (offering .before) in
     let e = entered-at f in
     let pre = start e .pre in
     record {
       settled-is = refl;
-      passes-is = f .fences-passed .ensures;
+      interval-is = f .interval-of .ensures;
       tree = _;
       out = e .enter .ensures (pre .drivable .tournament) (omega (arith, pre .has-label, pre .drivable .few-junctions));
       offered = offering .offer-arcs .ensures;
@@ -45,7 +45,6 @@ settle-spec =
     (λ c. search needs)
     (λ c. search needs)
     (λ c κs. search needs)
-    (λ c. search needs)
     (λ c. search needs)
     (λ c. search needs)
     offer-arcs-requires

@@ -1,18 +1,18 @@
--- `drive::fences_passed` counts the fences that the tick has reached: the invariant says that those left add the rest of the count.
+-- `interval::fences_passed` counts the fences that the time of day has reached: the invariant says that those left add the rest of the count.
 use borrow.Author.Needs.{needs}
 use Prim.Native.Nat.{_+_, _-_}
 use mathlib.Core.Path.{_≡_, refl}
 use lib.ListN.{length, drop}
 use Rattle.model.specs.Intervals.{passed}
 use Rattle.driving.proofs.FenceCount.{passed-stops, passed-goes-on, passed-ends}
-use Rattle.driving.proofs.drive.fences_passed.Statement.{statement}
-use Rattle.driving.proofs.drive.fences_passed.Tie as tie
+use Rattle.driving.proofs.interval.fences_passed.Statement.{statement}
+use Rattle.driving.proofs.interval.fences_passed.Tie as tie
 
 abbrev Inv-loop : tie.InvT-loop
-Inv-loop fences reached tick k₀ k = k + passed (drop k fences) tick ≡ reached + passed (drop reached fences) tick
+Inv-loop fences reached time k₀ k = k + passed (drop k fences) time ≡ reached + passed (drop reached fences) time
 
 abbrev μ-loop : tie.MeasureT-loop
-μ-loop fences reached tick k₀ k = length fences - k
+μ-loop fences reached time k₀ k = length fences - k
 
 loop-holds : tie.Need-loop-holds Inv-loop μ-loop
 loop-holds c = refl

@@ -1,0 +1,47 @@
+-- The speeds repeat by the day, since a tick and the one a day later have the same time of day. So a vehicle that leaves a day later covers the
+-- same in as many ticks, and arrives a day later.
+use Prim.Native.Nat.{ℕ, zero, suc, _+_, _-_}
+use mathlib.Core.Path.{_≡_, refl, sym, ap, subst}
+use mathlib.Core.Bool.{cond}
+use mathlib.Core.Logic.{⊎-elim}
+use native.Mathlib.Nat.{add-mod-right}
+use native.Mathlib.Omega.{arith}
+use lib.Dec.{leb}
+use lib.ListN.{getD}
+use Rattle.model.specs.Ticks.{day, last, never}
+use Rattle.model.specs.Flow.{covered, arrival, IsArrival}
+use Rattle.model.specs.Intervals.{passed, intervalOf, speedAt, SpeedsRepeat}
+use Rattle.model.specs.Network.{speedsOf, speedOn, driveOf, DrivesRepeat}
+use Rattle.model.proofs.Tests.{leb-cases}
+use Rattle.model.proofs.Arrival.{arrival-is, arrival-is-least}
+
+pub speeds-repeat : SpeedsRepeat
+unfolding speedAt intervalOf
+speeds-repeat fences speeds t = ap (λ (time : ℕ). getD speeds (passed fences time - 1) 0) (add-mod-right t day)
+
+module _ (v : ℕ → ℕ) (repeats : (t : ℕ) → v (t + day) ≡ v t) (spans s : ℕ) where
+  covered-repeats : (n : ℕ) → covered v (s + day) n ≡ covered v s n
+  unfolding covered
+  covered-repeats zero = refl
+  covered-repeats (suc n) =
+      let later : s + day + n ≡ s + n + day = omega arith in
+      rw (covered-repeats n, later, repeats (s + n))
+
+  a-day-later : {t : ℕ} → IsArrival v spans s t → IsArrival v spans (s + day) (cond (leb (t + day) last) (t + day) never)
+  a-day-later (IsArrival.attained n in-time enough before) =
+      ⊎-elim
+      (λ w.
+      let later : s + day + n ≡ s + n + day = omega arith in
+      rw (w .0)
+      (subst (IsArrival v spans (s + day)) later
+      (IsArrival.attained n (omega (arith, w .1)) (rw (covered-repeats n) enough) (λ m h. rw (covered-repeats m) (before m h)))))
+      (λ w. rw (w .0) (IsArrival.none (λ m h. rw (covered-repeats m) (before m (omega (arith, w .1))))))
+      (leb-cases (s + n + day) last)
+  a-day-later (IsArrival.none too-little) = IsArrival.none (λ m h. rw (covered-repeats m) (too-little m (omega arith)))
+
+  arrival-repeats : arrival v spans (s + day) ≡ cond (leb (arrival v spans s + day) last) (arrival v spans s + day) never
+  arrival-repeats = sym (arrival-is-least v spans (s + day) _ .1 (a-day-later (arrival-is v spans s)))
+
+pub drives-repeat : DrivesRepeat
+unfolding driveOf speedOn
+drives-repeat N a t = arrival-repeats (speedOn N a) (speeds-repeat (N .fences) (speedsOf N a)) _ t

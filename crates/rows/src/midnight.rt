@@ -1,0 +1,84 @@
+// Reckonings around midnight, by document 02, order 2: plans start again.
+use crate::print_arc;
+use crate::print_label;
+use crate::print_refusal;
+use driving::arc::arc_arrival;
+use labelling::labels::Labelled;
+use labelling::labels::labels;
+use libc::STDOUT_FILENO;
+use model::tick::Tick;
+
+fn print_row(metres: u32, fences: &[u32], speeds: &[u8], departure: u32) {
+    io::write_all(STDOUT_FILENO, b"length ");
+    io::print_decimal(STDOUT_FILENO, metres as u64);
+    io::write_all(STDOUT_FILENO, b" from ");
+    io::print_decimal(STDOUT_FILENO, departure as u64);
+    io::write_all(STDOUT_FILENO, b": ");
+    print_arc(arc_arrival(Tick { number: departure }, metres, fences, speeds));
+}
+
+// A plan that moves one metre a day, in its last tick: left in that tick of either day, and at either midnight.
+fn print_last_tick(departure: u32) {
+    let fences = [0u32, 863_999];
+    let speeds = [0u8, 36];
+    io::write_all(STDOUT_FILENO, b"a metre in the day's last tick, ");
+    print_row(1, &fences, &speeds, departure);
+}
+
+// A plan that moves 100 metres a day, from tick 100 to tick 200 of it.
+fn print_moving(metres: u32, departure: u32) {
+    let fences = [0u32, 100, 200];
+    let speeds = [0u8, 36, 0];
+    io::write_all(STDOUT_FILENO, b"100 metres a day, ");
+    print_row(metres, &fences, &speeds, departure);
+}
+
+// Two arcs of 10 metres in turn, one of which is twice as fast in one half of the day.
+fn print_halves(morning: u8, evening: u8, departure: u32) {
+    let fences = [0u32, 432_000];
+    let tails = [0u16, 1];
+    let heads = [1u16, 2];
+    let lengths = [10u32, 10];
+    let speeds = [36u8, 36, morning, evening];
+    let mut earliest = [0u32; 3];
+    let mut predecessors = [0u16; 3];
+    io::write_all(STDOUT_FILENO, b"half days of ");
+    io::print_decimal(STDOUT_FILENO, morning as u64);
+    io::write_all(STDOUT_FILENO, b" and ");
+    io::print_decimal(STDOUT_FILENO, evening as u64);
+    io::write_all(STDOUT_FILENO, b":");
+    match labels(
+        3,
+        &fences,
+        &tails,
+        &heads,
+        &lengths,
+        &speeds,
+        0,
+        Tick { number: departure },
+        &mut earliest,
+        &mut predecessors,
+    ) {
+        Labelled::Written => {
+            print_label(earliest[0], predecessors[0]);
+            print_label(earliest[1], predecessors[1]);
+            print_label(earliest[2], predecessors[2]);
+        }
+        Labelled::Refused(refusal) => print_refusal(refusal),
+    }
+    io::write_all(STDOUT_FILENO, b"\n");
+}
+
+pub(crate) fn print_rows() {
+    print_last_tick(863_999);
+    print_last_tick(864_000);
+    print_last_tick(1_727_999);
+    print_last_tick(1_728_000);
+    print_moving(150, 0);
+    print_moving(200, 0);
+    print_moving(201, 0);
+    print_moving(1, 864_199);
+    print_moving(1, 864_200);
+    print_halves(72, 36, 863_990);
+    print_halves(36, 72, 431_990);
+}

@@ -1,3 +1,2 @@
-pub mod ArcRules
 pub mod Driving
 pub mod FenceCount

@@ -1,2 +1,1 @@
-pub mod ArcArrival
 pub mod ArcKept

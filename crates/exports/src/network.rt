@@ -2,15 +2,15 @@
 ghost use mathlib.Core.Path.{_≡_};
 ghost use Rattle.model.specs.NetworkRules.{networkCheck};
 ghost use Rattle.model.specs.Lent.{lentNetwork};
-ghost use Rattle.driving.specs.ArcArrival.{arcArrival};
+ghost use Rattle.arriving.specs.ArcArrival.{arcArrival};
 ghost use Rattle.labelling.specs.Labels.{labelsAnswer, labelsAfter, predecessorsAfter};
 ghost use Rattle.sheeting.specs.Sheet.{sheetAnswer, sheetLabelsAfter, sheetFiguresAfter};
 ghost use Rattle.routing.specs.Route.{routeAnswer, arcsAfter};
 ghost use Rattle.exports.specs.Codes.{numberOr0, arrivalCode, countCode};
+use arriving::arc::ArcArrival;
+use arriving::arc::arc_arrival;
 use checking::network::NetworkCheck;
 use checking::network::network_check;
-use driving::arc::ArcArrival;
-use driving::arc::arc_arrival;
 use labelling::labels::Labelled;
 use model::label::UNREACHED;
 use model::tick::Tick;

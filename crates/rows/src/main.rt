@@ -1,8 +1,8 @@
 // The reckonings of document 01 that are run and not proved, and others around midnight, each on a line with what the operation answers.
 ghost use mathlib.Core.Path.{_≡_};
 ghost use lib.ListN.{length};
-use driving::arc::ArcArrival;
-use driving::arc::arc_arrival;
+use arriving::arc::ArcArrival;
+use arriving::arc::arc_arrival;
 use labelling::labels::Labelled;
 use labelling::labels::labels;
 use libc::STDOUT_FILENO;

@@ -2,7 +2,7 @@
 use crate::print_arc;
 use crate::print_label;
 use crate::print_refusal;
-use driving::arc::arc_arrival;
+use arriving::arc::arc_arrival;
 use labelling::labels::Labelled;
 use labelling::labels::labels;
 use libc::STDOUT_FILENO;

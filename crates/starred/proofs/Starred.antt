@@ -23,7 +23,7 @@ use Rattle.model.proofs.Pieces.{arrival-over-piece}
 use Rattle.model.proofs.Rules.{every-at, fences-kept}
 use Rattle.settling.specs.Labelable.{Labelable}
 use Rattle.labelling.proofs.LabelRules.{labels-replies-when-labelable}
-use Rattle.driving.specs.ArcArrival.{arcArrival}
+use Rattle.arriving.specs.ArcArrival.{arcArrival}
 use Rattle.townfile.specs.Bytes.{upTo, onFirst, pieces}
 use Rattle.townfile.specs.Numbers.{decimalFrom, numberKeeps}
 use Rattle.townfile.specs.Lines.{markOf, nameKeeps, formKeeps, valuesKeep, lineRead, lineAnswer}

@@ -10,9 +10,9 @@ use Rattle.model.specs.declared.tick.Arrival.{Arrival}
 use Rattle.model.specs.Rules.{replied}
 use Rattle.checking.proofs.KeptSoFar.{KeptSoFar, none-asked, next-kept, next-refused}
 use Rattle.checking.proofs.Flags.{as-test}
-use Rattle.driving.proofs.ArcRules.{by-rules, engine-replies}
-use Rattle.driving.proofs.arc.arc_arrival.Statement.{statement}
-use Rattle.driving.proofs.arc.arc_arrival.Tie as tie
+use Rattle.arriving.proofs.ArcRules.{by-rules, engine-replies}
+use Rattle.arriving.proofs.arc.arc_arrival.Statement.{statement}
+use Rattle.arriving.proofs.arc.arc_arrival.Tie as tie
 
 abbrev kept₀ : tie.After-interval-count-keeps → KeptSoFar 0
 kept₀ c =

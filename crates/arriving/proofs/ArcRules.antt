@@ -14,8 +14,8 @@ use Rattle.model.specs.Flow.{spansOf, arrival}
 use Rattle.model.specs.Intervals.{FencesKept, intervalOf, speedAt}
 use Rattle.model.specs.Rules.{AllKept, replied, firstBroken, fencesKeep, lengthKeeps}
 use Rattle.model.proofs.Rules.{kept-replies, replies-kept, kept-count, count-kept, kept-length, length-kept, kept-speeds, speeds-kept, fences-kept, kept-fences}
 use Rattle.driving.specs.ArcKept.{ArcKept}
-use Rattle.driving.specs.ArcArrival.{arcRules, arcArrival, ArcAccepted, ArcRepliesWhenAccepted}
+use Rattle.arriving.specs.ArcArrival.{arcRules, arcArrival, ArcAccepted, ArcRepliesWhenAccepted}
 
 module _ (departure metres : ℕ) (fences speeds : List ℕ) where
   pub kept-accepted : AllKept (arcRules departure metres fences speeds) → ArcAccepted departure metres fences speeds

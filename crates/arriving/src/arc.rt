@@ -1,12 +1,12 @@
 // Arc arrival: when a vehicle that leaves an arc's tail at a tick reaches its head.
 ghost use mathlib.Core.Path.{_≡_};
-ghost use Rattle.driving.specs.ArcArrival.{arcArrival, outcomeOf};
-use crate::drive::drive;
-use crate::interval::interval_of;
+ghost use Rattle.arriving.specs.ArcArrival.{arcArrival, outcomeOf};
 use checking::rule::fences_keep;
 use checking::rule::interval_count_keeps;
 use checking::rule::length_keeps;
 use checking::rule::speeds_keep;
+use driving::drive::drive;
+use driving::interval::interval_of;
 use model::tick::Arrival;
 use model::tick::Tick;
 use refusals::refusal::Refusal;

@@ -14,8 +14,8 @@ use Rattle.model.specs.Flow.{spansOf, arrival}
 use Rattle.model.specs.Intervals.{FencesKept, speedAt}
 use Rattle.refusals.specs.Refusals.{numberOf}
 use Rattle.model.specs.Rules.{Outcome, refused, replied, Rule, _if_, firstBroken, every, countKeeps, fencesKeep, lengthKeeps, speedKeeps}
-use Rattle.driving.specs.declared.arc.ArcArrival.{ArcArrival}
-use Rattle.driving.specs.declared.arc.ArcArrival.the-variants.{At, CannotBeDriven, Refused}
+use Rattle.arriving.specs.declared.arc.ArcArrival.{ArcArrival}
+use Rattle.arriving.specs.declared.arc.ArcArrival.the-variants.{At, CannotBeDriven, Refused}
 
 -- The answer's number and value.
 abbrev pub outcomeOf : ArcArrival → Outcome (Option ℕ)

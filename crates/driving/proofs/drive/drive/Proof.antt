@@ -96,7 +96,10 @@ loop-less : tie.Need-loop-less Inv-loop μ-loop
 loop-less c =
     let l = at-loop (c .before .before .before) in
     let d = l .loop .inv in
-    day-less _ _ (d .days) _ (omega (arith, d .inside, counted l .intervals-of .ensures)) (d .is-midnight) (c .if5 .left)
+    day-less (counted l .intervals-of .result) (l .loop .midnight) (d .days) (l .loop .k)
+    (omega (arith, d .inside, counted l .intervals-of .ensures))
+    (d .is-midnight)
+    (omega (arith, c .if5 .left))
 
 loop-again : tie.Need-loop-again Inv-loop μ-loop
 loop-again c =
@@ -104,7 +107,7 @@ loop-again c =
     let l = at-loop covering in
     drives-past-midnight (l .loop .inv) (covering .before .interval-end .ensures) (covering .covered-until .ensures) (c .before .before .if3 .left)
     (omega (arith, counted l .intervals-of .ensures, c .before .if4 .taken))
-    (c .if5 .left)
+    (omega (arith, c .if5 .left))
 
 -- the next interval of the day
 loop-less-2 : tie.Need-loop-less-2 Inv-loop μ-loop
@@ -134,7 +137,7 @@ returns-4 c kept =
     ap tick?
     (never-arrives (l .loop .inv) (covering .before .interval-end .ensures) (covering .covered-until .ensures) kept (c .before .before .if3 .left)
     (omega (arith, kept .as-many, counted l .intervals-of .ensures, c .before .if4 .taken))
-    (c .if5 .taken))
+    (omega (arith, c .if5 .taken)))
 
 pub drive-spec : {M : Type 1} → statement M
 drive-spec =

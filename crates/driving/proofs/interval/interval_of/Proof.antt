@@ -1,4 +1,4 @@
--- `interval::interval_of`: the fences surely reached and those counted after them are all that the time of day has reached.
+-- `interval::interval_of`: the fences reached at least and those counted after them are all that the time of day has reached.
 use borrow.Author.Needs.{needs}
 use native.Mathlib.Omega.{arith}
 use Rattle.model.specs.Intervals.{intervalOf}

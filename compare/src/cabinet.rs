@@ -3,8 +3,8 @@
 //! All `unsafe` of the package stands here. A lent slice crosses the boundary
 //! as its pointer and its length; the library keeps neither after the call.
 
-use crate::reference::limits::{REFUSED, UNREACHED};
-use crate::reference::{Counts, LoadRefusal, Network, Refusal};
+use crate::reference::limits::REFUSED;
+use crate::reference::{Arrival, Counts, LoadRefusal, Network, Refusal};
 
 mod exports {
     unsafe extern "C" {
@@ -24,12 +24,13 @@ mod exports {
 
         pub fn exports_arc_arrival(
             departure: u32,
+            interval: u32,
             length: u32,
             fences: *const u32,
             fence_count: usize,
             speeds: *const u8,
             speed_count: usize,
-        ) -> u32;
+        ) -> u64;
 
         pub fn exports_labels(
             junctions: u32,
@@ -141,6 +142,10 @@ macro_rules! on_network {
 /// Set in Load's answer when it is a refusal.
 const LOAD_REFUSED: u64 = 1 << 63;
 
+/// The upper halves of Arc arrival's answers that are not an interval.
+const ARC_REFUSED: u32 = 1 << 31;
+const NOT_DRIVEN: u32 = 1 << 30;
+
 pub fn network_check(network: &Network) -> Result<(), Refusal> {
     // SAFETY: each pointer and length belong to one slice lent for the call.
     let answer = unsafe { on_network!(exports_network_check, network,) };
@@ -149,14 +154,16 @@ pub fn network_check(network: &Network) -> Result<(), Refusal> {
 
 pub fn arc_arrival(
     departure: u32,
+    interval: u32,
     length: u32,
     fences: &[u32],
     speeds: &[u8],
-) -> Result<Option<u32>, Refusal> {
+) -> Result<Option<Arrival>, Refusal> {
     // SAFETY: each pointer and length belong to one slice lent for the call.
     let answer = unsafe {
         exports::exports_arc_arrival(
             departure,
+            interval,
             length,
             fences.as_ptr(),
             fences.len(),
@@ -164,10 +171,7 @@ pub fn arc_arrival(
             speeds.len(),
         )
     };
-    match answer {
-        UNREACHED => Ok(None),
-        _ => decoded(answer).map(Some),
-    }
+    decoded_arrival(answer)
 }
 
 pub fn labels(
@@ -312,6 +316,33 @@ fn decoded(answer: u32) -> Result<u32, Refusal> {
     }
 }
 
+/// Reads an answer of Arc arrival. One that is none of the three forms gives an
+/// interval that no plan has, so that a comparison sees it.
+fn decoded_arrival(answer: u64) -> Result<Option<Arrival>, Refusal> {
+    match halves(answer) {
+        (ARC_REFUSED, number) => Err(Refusal(number)),
+        (NOT_DRIVEN, 0) => Ok(None),
+        (interval, tick) => Ok(Some(Arrival { tick, interval })),
+    }
+}
+
 fn halves(answer: u64) -> (u32, u32) {
     ((answer >> 32) as u32, answer as u32)
+}
+
+#[cfg(test)]
+mod tests {
+    use super::*;
+
+    #[test]
+    fn reads_arc_arrivals_answers() {
+        let arrival = |tick, interval| Ok(Some(Arrival { tick, interval }));
+        assert_eq!(decoded_arrival(1_728_000), arrival(1_728_000, 0));
+        assert_eq!(decoded_arrival((95 << 32) + 7), arrival(7, 95));
+        assert_eq!(decoded_arrival(1 << 62), Ok(None));
+        assert_eq!(decoded_arrival((1 << 63) + 46), Err(Refusal(46)));
+        // None of the three forms.
+        assert_eq!(decoded_arrival((1 << 62) + 7), arrival(7, 1 << 30));
+        assert_eq!(decoded_arrival((3 << 62) + 7), arrival(7, 3 << 30));
+    }
 }

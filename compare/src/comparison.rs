@@ -27,7 +27,7 @@ pub struct Check {
     pub refuses: &'static [RangeInclusive<u32>],
 }
 
-pub const CHECKS: [&Check; 19] = [
+pub const CHECKS: [&Check; 23] = [
     &cases::NETWORK_CHECK,
     &cases::ARC_ARRIVAL,
     &cases::LABELS,
@@ -44,6 +44,10 @@ pub const CHECKS: [&Check; 19] = [
     &properties::IMPROVEMENT,
     &properties::DAY_LATER,
     &properties::LABELS_ROTATED,
+    &properties::ONE_INTERVAL,
+    &properties::INTERVALS_PASSED_ON,
+    &properties::LABELS_OF_PATHS,
+    &properties::LABELS_BY_ARCS,
     &properties::SHEET_BY_LABELS,
     &properties::SHEET_SHUFFLED,
     &properties::SHEET_TWICE,

@@ -15,7 +15,7 @@ mod refusal;
 mod route;
 mod sheet;
 
-pub use arc::arc_arrival;
+pub use arc::{Arrival, arc_arrival};
 pub use host::host_question;
 pub use labels::labels;
 pub use load::{Counts, load, name};

@@ -1,5 +1,8 @@
-//! The programs' size limit, midnight and the last tick, a sheet's list and
-//! buffers, and towns of fixed size.
+//! The programs' size limit, midnight and the last tick, an arc's intervals, a
+//! sheet's list and buffers, and towns of fixed size.
+
+#[path = "boundaries/intervals.rs"]
+mod intervals;
 
 use compare::cabinet;
 use compare::comparison::answers::{self, TableLengths};
@@ -106,32 +109,53 @@ fn last_tick() {
     }
 }
 
-/// The arrival on which both agree, `None` where the arc cannot be driven.
-fn arrival(departure: u32, length: u32, fences: &[u32], speeds: &[u8]) -> Option<u32> {
-    if let Err(difference) = answers::arc_arrival(departure, length, fences, speeds) {
+/// The arrival's tick and interval on which both agree, for a departure's; `None` where
+/// the arc cannot be driven.
+fn arrival(
+    (departure, interval): (u32, u32),
+    length: u32,
+    fences: &[u32],
+    speeds: &[u8],
+) -> Option<(u32, u32)> {
+    if let Err(difference) = answers::arc_arrival(departure, interval, length, fences, speeds) {
         panic!("{difference}");
     }
-    let reply = cabinet::arc_arrival(departure, length, fences, speeds);
-    reply.expect("accepted")
+    let reply = cabinet::arc_arrival(departure, interval, length, fences, speeds);
+    let arrival = reply.expect("accepted")?;
+    Some((arrival.tick, arrival.interval))
 }
 
 #[test]
 fn both_sides_of_midnight() {
     // A metre in each of a day's first two ticks and a third of one in each of its last
     // two; standing still between them.
-    let metre = |departure| arrival(departure, 1, &[0, 2, 863_998], &[36, 0, 12]);
-    assert_eq!(metre(0), Some(1));
-    assert_eq!(metre(1), Some(2));
+    let metre = |departure, interval| {
+        let fences = [0, 2, 863_998];
+        arrival((departure, interval), 1, &fences, &[36, 0, 12])
+    };
+    assert_eq!(metre(0, 0), Some((1, 0)));
+    assert_eq!(metre(1, 0), Some((2, 1)));
     // One or two thirds before midnight, or none: the first tick after it is needed.
-    for departure in [2, 3, 863_997, 863_998, 863_999, 864_000] {
-        assert_eq!(metre(departure), Some(864_001));
+    let after_midnight = Some((864_001, 0));
+    for departure in [2, 3, 863_997] {
+        assert_eq!(metre(departure, 1), after_midnight);
     }
-    assert_eq!(metre(864_001), Some(864_002));
+    for departure in [863_998, 863_999] {
+        assert_eq!(metre(departure, 2), after_midnight);
+    }
+    assert_eq!(metre(864_000, 0), after_midnight);
+    assert_eq!(metre(864_001, 0), Some((864_002, 1)));
     // Two thirds up to the last tick, where the second day ends.
-    for departure in [864_002, 864_003, 1_727_998, 1_727_999, 1_728_000] {
-        assert_eq!(metre(departure), None);
+    for (departure, interval) in [
+        (864_002, 1),
+        (864_003, 1),
+        (1_727_998, 2),
+        (1_727_999, 2),
+        (1_728_000, 0),
+    ] {
+        assert_eq!(metre(departure, interval), None);
     }
-    let late = cabinet::arc_arrival(1_728_001, 1, &[0], &[200]);
+    let late = cabinet::arc_arrival(1_728_001, 0, 1, &[0], &[200]);
     assert_eq!(late, Err(Refusal(15)));
 }
 
@@ -142,24 +166,24 @@ fn most_intervals_around_midnight() {
     let speeds = [vec![0], vec![1; 95]].concat();
     let evening = |departure, length| arrival(departure, length, &fences, &speeds);
     // 36 spans in the first evening.
-    assert_eq!(evening(0, 1), Some(863_941));
+    assert_eq!(evening((0, 0), 1), Some((863_941, 37)));
     // 180 spans: 95 in the first evening, and 85 in the second.
-    assert_eq!(evening(0, 5), Some(1_727_990));
+    assert_eq!(evening((0, 0), 5), Some((1_727_990, 86)));
     // Ten of the first 95 may be missed, but not eleven.
-    assert_eq!(evening(863_915, 5), Some(1_728_000));
-    assert_eq!(evening(863_916, 5), None);
-    assert_eq!(evening(0, 6), None);
+    assert_eq!(evening((863_915, 11), 5), Some((1_728_000, 0)));
+    assert_eq!(evening((863_916, 12), 5), None);
+    assert_eq!(evening((0, 0), 6), None);
 
     // The same at the start of the day, before one that stands still.
     let fences: Vec<u32> = (0..96).collect();
     let speeds = [vec![1; 95], vec![0]].concat();
     let morning = |departure, length| arrival(departure, length, &fences, &speeds);
-    assert_eq!(morning(0, 5), Some(864_085));
-    assert_eq!(morning(10, 5), Some(864_095));
-    assert_eq!(morning(11, 5), None);
-    assert_eq!(morning(863_999, 1), Some(864_036));
-    assert_eq!(morning(864_059, 1), Some(864_095));
-    assert_eq!(morning(864_060, 1), None);
+    assert_eq!(morning((0, 0), 5), Some((864_085, 85)));
+    assert_eq!(morning((10, 10), 5), Some((864_095, 95)));
+    assert_eq!(morning((11, 11), 5), None);
+    assert_eq!(morning((863_999, 95), 1), Some((864_036, 36)));
+    assert_eq!(morning((864_059, 59), 1), Some((864_095, 95)));
+    assert_eq!(morning((864_060, 60), 1), None);
 }
 
 #[test]

@@ -95,6 +95,26 @@ fn labels_rotated() {
 }
 
 #[test]
+fn one_interval() {
+    run(&properties::ONE_INTERVAL);
+}
+
+#[test]
+fn intervals_passed_on() {
+    run(&properties::INTERVALS_PASSED_ON);
+}
+
+#[test]
+fn labels_of_paths() {
+    run(&properties::LABELS_OF_PATHS);
+}
+
+#[test]
+fn labels_by_arcs() {
+    run(&properties::LABELS_BY_ARCS);
+}
+
+#[test]
 fn sheet_by_labels() {
     run(&properties::SHEET_BY_LABELS);
 }

@@ -1,11 +1,11 @@
 //! The reckonings that document 01 keeps, alone and on a sheet, and more of them around
-//! midnight, put to the library and the reference.
+//! midnight, put to the library and the reference. An arc's have their intervals.
 
 use compare::comparison::program::{ARRIVALS, Run, SHEET};
 use compare::inputs::examples::{TABLE_1, TOWN, TOWN_TEXT};
 use compare::operations::{CABINET, Operations, REFERENCE};
 use compare::reference::limits::{NO_ARC, REFUSED};
-use compare::reference::{Counts, LoadRefusal, Network, Refusal};
+use compare::reference::{Arrival, Counts, LoadRefusal, Network, Refusal};
 
 const BOTH: [Operations; 2] = [CABINET, REFERENCE];
 
@@ -58,29 +58,38 @@ fn load(operations: &Operations, text: &str) -> Result<Counts, LoadRefusal> {
     Ok(counts)
 }
 
-#[test]
-fn arcs() {
-    for operations in BOTH {
-        let arrival = |length, fences: &[u32], speeds: &[u8], departure| {
-            (operations.arc_arrival)(departure, length, fences, speeds)
-        };
-        assert_eq!(arrival(1, &[0], &[36], 0), Ok(Some(1)));
-        assert_eq!(arrival(1, &[0], &[35], 0), Ok(Some(2)));
-        assert_eq!(arrival(1, &[0], &[10], 0), Ok(Some(4)));
-        assert_eq!(arrival(1, &[0, 100], &[0, 36], 10), Ok(Some(101)));
-        assert_eq!(arrival(1, &[0, 100], &[36, 0], 99), Ok(Some(100)));
-        assert_eq!(arrival(2, &[0, 100], &[36, 0], 99), Ok(Some(864_001)));
-        assert_eq!(arrival(1, &[0], &[1], 1_727_964), Ok(Some(1_728_000)));
-        assert_eq!(arrival(1, &[0], &[1], 1_727_965), Ok(None));
+/// A tick and the interval that contains its remainder by the day.
+type Moment = (u32, u32);
+
+/// Arc arrival with its input in a row's order, the departure with its interval; the
+/// arrival has its interval too. With every other interval the row must be 46.
+fn row(operations: &Operations) -> impl Fn(u32, &[u32], &[u8], Moment) -> Option<Moment> {
+    let arc_arrival = operations.arc_arrival;
+    move |length, fences, speeds, (departure, right)| {
+        let reply = |interval| arc_arrival(departure, interval, length, fences, speeds);
+        let count = fences.len() as u32;
+        for wrong in (0..=count).chain([u32::MAX]).filter(|&one| one != right) {
+            assert_eq!(reply(wrong), Err(Refusal(46)));
+        }
+        let arrival = reply(right).expect("accepted")?;
+        Some((arrival.tick, arrival.interval))
     }
 }
 
-/// Arc arrival with its input in a row's order: length, fences, speeds, departure.
-fn row(operations: &Operations) -> impl Fn(u32, &[u32], &[u8], u32) -> Option<u32> {
-    let arc_arrival = operations.arc_arrival;
-    move |length, fences, speeds, departure| {
-        let reply = arc_arrival(departure, length, fences, speeds);
-        reply.expect("accepted")
+#[test]
+fn arcs() {
+    for operations in BOTH {
+        let arrival = row(&operations);
+        assert_eq!(arrival(1, &[0], &[36], (0, 0)), Some((1, 0)));
+        assert_eq!(arrival(1, &[0], &[35], (0, 0)), Some((2, 0)));
+        assert_eq!(arrival(1, &[0], &[10], (0, 0)), Some((4, 0)));
+        assert_eq!(arrival(1, &[0, 100], &[0, 36], (10, 0)), Some((101, 1)));
+        assert_eq!(arrival(1, &[0, 100], &[36, 0], (99, 0)), Some((100, 1)));
+        let next_day = Some((864_001, 0));
+        assert_eq!(arrival(2, &[0, 100], &[36, 0], (99, 0)), next_day);
+        let last = Some((1_728_000, 0));
+        assert_eq!(arrival(1, &[0], &[1], (1_727_964, 0)), last);
+        assert_eq!(arrival(1, &[0], &[1], (1_727_965, 0)), None);
     }
 }
 
@@ -89,22 +98,22 @@ fn arcs_across_midnight() {
     for operations in BOTH {
         let arrival = row(&operations);
         // One tick, the day's last; what comes after midnight does not matter.
-        let evening = [0, 863_999];
-        assert_eq!(arrival(1, &evening, &[0, 36], 863_999), Some(864_000));
-        assert_eq!(arrival(1, &evening, &[200, 36], 863_999), Some(864_000));
+        let evening = |speeds| arrival(1, &[0, 863_999], speeds, (863_999, 1));
+        assert_eq!(evening(&[0, 36]), Some((864_000, 0)));
+        assert_eq!(evening(&[200, 36]), Some((864_000, 0)));
         // 12 spans before midnight; the other 24 take three ticks at 8 after it.
-        assert_eq!(arrival(1, &evening, &[8, 12], 863_999), Some(864_003));
+        assert_eq!(evening(&[8, 12]), Some((864_003, 0)));
         // 18 spans in the last tick of each day make a metre, 17 do not.
-        assert_eq!(arrival(1, &evening, &[0, 18], 863_999), Some(1_728_000));
-        assert_eq!(arrival(1, &evening, &[0, 17], 863_999), None);
+        assert_eq!(evening(&[0, 18]), Some((1_728_000, 0)));
+        assert_eq!(evening(&[0, 17]), None);
         // Standing until midnight, then a metre in each of the ticks up to the fence.
-        let morning = [0, 100];
-        assert_eq!(arrival(1, &morning, &[36, 0], 863_999), Some(864_001));
-        assert_eq!(arrival(100, &morning, &[36, 0], 100), Some(864_100));
-        assert_eq!(arrival(100, &morning, &[36, 0], 863_999), Some(864_100));
-        assert_eq!(arrival(101, &morning, &[36, 0], 100), None);
+        let morning = |length, departure| arrival(length, &[0, 100], &[36, 0], departure);
+        assert_eq!(morning(1, (863_999, 1)), Some((864_001, 0)));
+        assert_eq!(morning(100, (100, 1)), Some((864_100, 1)));
+        assert_eq!(morning(100, (863_999, 1)), Some((864_100, 1)));
+        assert_eq!(morning(101, (100, 1)), None);
         // The last of these ticks on the first day, and all of them on the second.
-        assert_eq!(arrival(101, &morning, &[36, 0], 99), Some(864_100));
+        assert_eq!(morning(101, (99, 0)), Some((864_100, 1)));
     }
 }
 
@@ -112,22 +121,26 @@ fn arcs_across_midnight() {
 fn arcs_on_the_second_day() {
     for operations in BOTH {
         let arrival = row(&operations);
+        let metre =
+            |fences: &[u32], speeds: &[u8], departure| arrival(1, fences, speeds, departure);
         // Midnight has remainder 0 and so the first interval's speed.
-        assert_eq!(arrival(1, &[0, 100], &[36, 0], 864_000), Some(864_001));
-        assert_eq!(arrival(1, &[0, 100], &[0, 36], 864_000), Some(864_101));
+        let morning = [0, 100];
+        let midnight = (864_000, 0);
+        assert_eq!(metre(&morning, &[36, 0], midnight), Some((864_001, 0)));
+        assert_eq!(metre(&morning, &[0, 36], midnight), Some((864_101, 1)));
         // On either side of the second day's fence, 864,100.
-        assert_eq!(arrival(1, &[0, 100], &[36, 12], 864_099), Some(864_100));
-        assert_eq!(arrival(1, &[0, 100], &[36, 12], 864_100), Some(864_103));
+        let fence = (864_100, 1);
+        assert_eq!(metre(&morning, &[36, 12], (864_099, 0)), Some(fence));
+        assert_eq!(metre(&morning, &[36, 12], fence), Some((864_103, 1)));
         // The second day's last tick has the last interval's speed.
-        assert_eq!(arrival(1, &[0], &[36], 1_727_999), Some(1_728_000));
-        assert_eq!(
-            arrival(1, &[0, 863_999], &[0, 36], 1_727_999),
-            Some(1_728_000)
-        );
-        assert_eq!(arrival(1, &[0, 863_999], &[200, 35], 1_727_999), None);
+        let evening = [0, 863_999];
+        let last = (1_728_000, 0);
+        assert_eq!(metre(&[0], &[36], (1_727_999, 0)), Some(last));
+        assert_eq!(metre(&evening, &[0, 36], (1_727_999, 1)), Some(last));
+        assert_eq!(metre(&evening, &[200, 35], (1_727_999, 1)), None);
         // Nothing is driven after the last tick, whatever its remainder's speed.
-        assert_eq!(arrival(1, &[0], &[200], 1_728_000), None);
-        assert_eq!(arrival(1, &[0, 863_999], &[200, 0], 1_728_000), None);
+        assert_eq!(metre(&[0], &[200], last), None);
+        assert_eq!(metre(&evening, &[200, 0], last), None);
     }
 }
 
@@ -138,17 +151,55 @@ fn one_interval_met_twice() {
         let row = row(&operations);
         let arrival = |length, departure| row(length, &[0, 1_000, 1_010], &[0, 36, 0], departure);
         // Ten on the first day, five on the second.
-        assert_eq!(arrival(15, 0), Some(865_005));
-        assert_eq!(arrival(15, 1_000), Some(865_005));
+        assert_eq!(arrival(15, (0, 0)), Some((865_005, 1)));
+        assert_eq!(arrival(15, (1_000, 1)), Some((865_005, 1)));
         // Five on the first day; the second day's ten end at the fence.
-        assert_eq!(arrival(15, 1_005), Some(865_010));
+        assert_eq!(arrival(15, (1_005, 1)), Some((865_010, 2)));
         // Four on the first day are too few, and so is the second day alone.
-        assert_eq!(arrival(15, 1_006), None);
-        assert_eq!(arrival(15, 864_000), None);
+        assert_eq!(arrival(15, (1_006, 1)), None);
+        assert_eq!(arrival(15, (864_000, 0)), None);
         // Both days whole, and one metre more.
-        assert_eq!(arrival(20, 1_000), Some(865_010));
-        assert_eq!(arrival(20, 1_001), None);
-        assert_eq!(arrival(21, 0), None);
+        assert_eq!(arrival(20, (1_000, 1)), Some((865_010, 2)));
+        assert_eq!(arrival(20, (1_001, 1)), None);
+        assert_eq!(arrival(21, (0, 0)), None);
+    }
+}
+
+#[test]
+fn arcs_of_the_town() {
+    for operations in BOTH {
+        let arrival = on_arc(&operations, &TOWN);
+        assert_eq!(arrival(0, (10, 0)), Some((60, 0)));
+        // The label 100 is on the fence.
+        assert_eq!(arrival(1, (10, 0)), Some((100, 1)));
+        assert_eq!(arrival(2, (60, 0)), Some((110, 1)));
+    }
+}
+
+#[test]
+fn arcs_of_document_004() {
+    for operations in BOTH {
+        let arrival = on_arc(&operations, &TABLE_1);
+        // The route to d from 9,000, each arc left with what the one before gave back.
+        assert_eq!(arrival(0, (9_000, 1)), Some((18_000, 3)));
+        assert_eq!(arrival(2, (18_000, 3)), Some((26_000, 4)));
+        assert_eq!(arrival(5, (26_000, 4)), Some((34_000, 5)));
+        // The later ones, by b; the second is at d on the last fence.
+        assert_eq!(arrival(1, (21_000, 3)), Some((31_000, 5)));
+        assert_eq!(arrival(5, (31_000, 5)), Some((47_000, 7)));
+        assert_eq!(arrival(1, (24_000, 4)), Some((32_000, 5)));
+        assert_eq!(arrival(5, (32_000, 5)), Some((48_000, 8)));
+        assert_eq!(arrival(1, (27_000, 4)), Some((34_000, 5)));
+        assert_eq!(arrival(5, (34_000, 5)), Some((49_000, 8)));
+    }
+}
+
+/// A row of one of the network's arcs.
+fn on_arc(operations: &Operations, network: &Network) -> impl Fn(usize, Moment) -> Option<Moment> {
+    let row = row(operations);
+    move |arc, departure| {
+        let length = network.lengths[arc];
+        row(length, network.fences, network.arc_speeds(arc), departure)
     }
 }
 
@@ -293,8 +344,12 @@ fn limits() {
         assert_eq!(check(100_001, 200), Err(Refusal(7)));
         assert_eq!(check(100_000, 201), Err(Refusal(8)));
 
-        let arrival = |length, speed| (operations.arc_arrival)(0, length, &[0], &[speed]);
-        assert_eq!(arrival(100_000, 200), Ok(Some(18_000)));
+        let arrival = |length, speed| (operations.arc_arrival)(0, 0, length, &[0], &[speed]);
+        let in_time = Arrival {
+            tick: 18_000,
+            interval: 0,
+        };
+        assert_eq!(arrival(100_000, 200), Ok(Some(in_time)));
         assert_eq!(arrival(100_001, 200), Err(Refusal(7)));
         assert_eq!(arrival(100_000, 201), Err(Refusal(8)));
 

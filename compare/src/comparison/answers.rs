@@ -70,14 +70,16 @@ pub fn network_check(network: &OwnedNetwork) -> Result<Outcome, Difference> {
 
 pub fn arc_arrival(
     departure: u32,
+    interval: u32,
     length: u32,
     fences: &[u32],
     speeds: &[u8],
 ) -> Result<Outcome, Difference> {
-    let question = format!("arc arrival at {departure}, length {length}");
+    let question = format!("arc arrival at {departure} in {interval}, length {length}");
     let input = || shown_arc(fences, speeds);
     let reply = compare(&question, input, |operations| {
-        Answer::reply((operations.arc_arrival)(departure, length, fences, speeds))
+        let reply = (operations.arc_arrival)(departure, interval, length, fences, speeds);
+        Answer::reply(reply)
     })?;
     Ok(match reply {
         Ok(None) => Outcome::Nothing,

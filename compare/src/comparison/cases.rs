@@ -5,7 +5,8 @@ use super::program::{self, Program};
 use super::{Check, Difference, Outcome};
 use crate::inputs::damage::{damage_fences, damage_network, damage_text, replace_one};
 use crate::inputs::networks::{
-    random_arc, random_arc_departure, random_departure, random_departures, random_network,
+    interval_at, random_arc, random_arc_departure, random_departure, random_departures,
+    random_network,
 };
 use crate::inputs::texts::{pad, question_line, random_town};
 use crate::inputs::{OwnedNetwork, Random};
@@ -28,7 +29,7 @@ pub const ARC_ARRIVAL: Check = Check {
     cases: 200_000,
     run: arc_arrival,
     finds_nothing: true,
-    refuses: &[2..=2, 4..=5, 7..=8, 15..=15],
+    refuses: &[2..=2, 4..=5, 7..=8, 15..=15, 46..=46],
 };
 
 pub const LABELS: Check = Check {
@@ -118,7 +119,8 @@ fn arc_arrival(random: &mut Random) -> Result<Outcome, Difference> {
             _ => departure = random.pick(&[LAST_TICK + 1, u32::MAX]),
         }
     }
-    answers::arc_arrival(departure, length, &fences, &speeds)
+    let interval = random_interval(random, departure, &fences);
+    answers::arc_arrival(departure, interval, length, &fences, &speeds)
 }
 
 fn labels(random: &mut Random) -> Result<Outcome, Difference> {
@@ -261,6 +263,20 @@ fn random_list(random: &mut Random, network: &OwnedNetwork) -> Vec<u32> {
         replace_one(random, &mut departures, &LATE);
     }
     departures
+}
+
+/// The departure's interval, at times another or one that there is not.
+fn random_interval(random: &mut Random, departure: u32, fences: &[u32]) -> u32 {
+    let right = interval_at(fences, departure);
+    let count = fences.len() as u32;
+    match random.below(16) {
+        0 => right + 1,
+        1 => right.wrapping_sub(1),
+        2 => count,
+        3 => random.pick(&[u32::MAX, right + 256, right + 65_536]),
+        4 => random.below(count + 1),
+        _ => right,
+    }
 }
 
 /// A junction, at times one that there is not.

@@ -1,9 +1,11 @@
 //! Properties of the library's own answers, reckoned without the reference:
 //! tick by tick and walk by walk, as the documents define arrivals and labels.
 
+mod intervals;
 mod midnight;
 mod sheets;
 
+pub use intervals::{INTERVALS_PASSED_ON, LABELS_BY_ARCS, LABELS_OF_PATHS, ONE_INTERVAL};
 pub use midnight::{DAY_LATER, LABELS_ROTATED};
 pub use sheets::{SHEET_BY_LABELS, SHEET_SHUFFLED, SHEET_TWICE};
 
@@ -11,10 +13,11 @@ use super::answers::{shown, shown_arc};
 use super::{Check, Difference, Outcome};
 use crate::cabinet;
 use crate::inputs::networks::{
-    improve, random_arc, random_arc_departure, random_departure, random_network, random_towards,
-    small_network,
+    improve, interval_at, random_arc, random_arc_departure, random_departure, random_network,
+    random_towards, small_network,
 };
 use crate::inputs::{OwnedNetwork, Random};
+use crate::reference::Arrival;
 use crate::reference::limits::{DAY, LAST_TICK, NO_ARC, UNREACHED};
 
 pub const NON_PASSING: Check = Check {
@@ -55,8 +58,10 @@ fn non_passing(random: &mut Random) -> Result<Outcome, Difference> {
     let earlier = random_arc_departure(random, &fences);
     let later = random_towards(random, earlier, LAST_TICK);
     let arrival = |departure| {
-        let reply = cabinet::arc_arrival(departure, length, &fences, &speeds);
-        reply.expect("a good arc").unwrap_or(UNREACHED)
+        let interval = interval_at(&fences, departure);
+        let reply = cabinet::arc_arrival(departure, interval, length, &fences, &speeds);
+        let arrival = reply.expect("a good arc");
+        arrival.map_or(UNREACHED, |arrival| arrival.tick)
     };
     let (first, second) = (arrival(earlier), arrival(later));
     if first > second {
@@ -67,14 +72,16 @@ fn non_passing(random: &mut Random) -> Result<Outcome, Difference> {
             found: format!("{first}"),
         });
     }
-    Ok(driven(second))
+    Ok(driven((second != UNREACHED).then_some(second)))
 }
 
 fn arc_by_ticks(random: &mut Random) -> Result<Outcome, Difference> {
     let (length, fences, speeds) = random_arc(random);
     let departure = random_arc_departure(random, &fences);
-    let expected = arrival_by_ticks(departure, length, &fences, &speeds);
-    let found = cabinet::arc_arrival(departure, length, &fences, &speeds);
+    let interval = interval_at(&fences, departure);
+    let tick = arrival_by_ticks(departure, length, &fences, &speeds);
+    let expected = tick.map(|tick| arrival_at(&fences, tick));
+    let found = cabinet::arc_arrival(departure, interval, length, &fences, &speeds);
     if found != Ok(expected) {
         return Err(Difference {
             question: format!("length {length}, leaving at {departure}"),
@@ -83,13 +90,18 @@ fn arc_by_ticks(random: &mut Random) -> Result<Outcome, Difference> {
             found: format!("{found:?}"),
         });
     }
-    Ok(driven(expected.unwrap_or(UNREACHED)))
+    Ok(driven(expected))
 }
 
-fn driven(arrival: u32) -> Outcome {
-    match arrival {
-        UNREACHED => Outcome::Nothing,
-        _ => Outcome::Answered,
+fn driven<T>(arrival: Option<T>) -> Outcome {
+    arrival.map_or(Outcome::Nothing, |_| Outcome::Answered)
+}
+
+/// A tick and the interval that contains it.
+fn arrival_at(fences: &[u32], tick: u32) -> Arrival {
+    Arrival {
+        tick,
+        interval: interval_at(fences, tick),
     }
 }
 

@@ -45,7 +45,7 @@ impl OwnedNetwork {
         fences.push(0);
         fences.sort_unstable();
         fences.dedup();
-        let present = |&fence: &u32| self.interval_at((fence + start) % DAY);
+        let present = |&fence: &u32| interval_at(&self.fences, fence + start) as usize;
         let intervals: Vec<usize> = fences.iter().map(present).collect();
         let network = self.lent();
         let speeds = (0..self.arcs()).flat_map(|arc| {
@@ -57,12 +57,6 @@ impl OwnedNetwork {
             fences,
             ..self.clone()
         }
-    }
-
-    /// The interval that contains a tick of the day.
-    fn interval_at(&self, tick: u32) -> usize {
-        let last = self.fences.iter().rposition(|&fence| fence <= tick);
-        last.expect("the first fence is 0")
     }
 
     pub(super) fn insert_arc(&mut self, place: usize, arc: Arc) {
@@ -138,6 +132,24 @@ pub fn random_network(random: &mut Random) -> OwnedNetwork {
     network_of(random, junctions, intervals, arcs)
 }
 
+/// Junctions in a row, each with one arc to the next.
+pub fn random_path(random: &mut Random) -> OwnedNetwork {
+    let junctions = random.up_to_one_of(&[5, 40, MAX_JUNCTIONS]);
+    let intervals = random_intervals(random);
+    let scale = Scale::random(random);
+    let mut network = network_of(random, junctions, intervals, 0);
+    for tail in 0..junctions as u16 - 1 {
+        let arc = Arc {
+            tail,
+            head: tail + 1,
+            length: scale.length(random),
+            speeds: scale.speeds(random, intervals),
+        };
+        network.insert_arc(network.arcs(), arc);
+    }
+    network
+}
+
 /// A network small enough to try every walk.
 pub fn small_network(random: &mut Random) -> OwnedNetwork {
     let junctions = 1 + random.below(5);
@@ -199,6 +211,13 @@ pub fn random_arc(random: &mut Random) -> (u32, Vec<u32>, Vec<u8>) {
     let length = scale.length(random);
     let fences = random_fences(random, intervals);
     (length, fences, scale.speeds(random, intervals))
+}
+
+/// The interval that contains a tick's remainder by the day, by a look at every fence.
+/// Damaged fences may have none; then it is 0.
+pub fn interval_at(fences: &[u32], tick: u32) -> u32 {
+    let started = |&fence: &u32| fence <= tick % DAY;
+    fences.iter().rposition(started).unwrap_or(0) as u32
 }
 
 /// A departure below the day, often at or beside a fence or shortly before midnight.

@@ -1,7 +1,7 @@
 use std::cmp::Reverse;
 use std::collections::BinaryHeap;
 
-use super::arc::Departure;
+use super::arc::{Departure, interval_at};
 use super::limits::{DAY, NO_ARC, UNREACHED};
 use super::{Network, Refusal, network_check};
 
@@ -56,13 +56,16 @@ impl<'n> Search<'n> {
         labels.fill(UNREACHED);
         predecessors.fill(NO_ARC);
         labels[source as usize] = departure;
-        let mut queue = BinaryHeap::from([Reverse((departure, source as u16))]);
+        // An entry is a label, its junction, and the label's interval, with which the
+        // junction is left. Only the departure's is looked up.
+        let interval = interval_at(departure, network.fences) as u16;
+        let mut queue = BinaryHeap::from([Reverse((departure, source as u16, interval))]);
 
-        while let Some(Reverse((tick, tail))) = queue.pop() {
+        while let Some(Reverse((tick, tail, interval))) = queue.pop() {
             if tick > labels[usize::from(tail)] {
                 continue; // an earlier arrival at the tail was settled before
             }
-            let start = Departure::at(tick, network.fences);
+            let start = Departure::new(tick, interval.into());
             for &arc in self.arcs_out.of(tail) {
                 let head = network.heads[arc];
                 let label = &mut labels[usize::from(head)];
@@ -75,11 +78,11 @@ impl<'n> Search<'n> {
                 let Some(arrival) = start.drive(length, network.fences, speeds) else {
                     continue;
                 };
-                if arrival < *label {
-                    *label = arrival;
+                if arrival.tick < *label {
+                    *label = arrival.tick;
                     *predecessor = arc as u16;
-                    queue.push(Reverse((arrival, head)));
-                } else if arrival == *label {
+                    queue.push(Reverse((arrival.tick, head, arrival.interval as u16)));
+                } else if arrival.tick == *label {
                     // All arcs that attain the label pass here before it is settled.
                     *predecessor = (*predecessor).min(arc as u16);
                 }

@@ -6,20 +6,26 @@ use checking::rule::interval_count_keeps;
 use checking::rule::length_keeps;
 use checking::rule::speeds_keep;
 use driving::drive::drive;
-use driving::interval::interval_of;
+use driving::interval::contains;
 use model::tick::Arrival;
 use model::tick::Tick;
 use refusals::refusal::Refusal;
 
 pub enum ArcArrival {
-    At(Tick),
+    At { tick: Tick, interval: u32 },
     CannotBeDriven,
     Refused(Refusal),
 }
 
-// The length is in metres; the speeds are the arc's own, one for each interval.
-pub fn arc_arrival(departure: Tick, metres: u32, fences: &[u32], speeds: &[u8]) -> ArcArrival
-    ensures { λ r. ⌜ outcomeOf r ≡ arcArrival (departure .number) metres (now (fences .entry)) (now (speeds .entry)) ⌝ }
+// The interval is the departure's; the length is in metres; the speeds are the arc's own, one for each interval.
+pub fn arc_arrival(
+    departure: Tick,
+    interval: u32,
+    metres: u32,
+    fences: &[u32],
+    speeds: &[u8],
+) -> ArcArrival
+    ensures { λ r. ⌜ outcomeOf r ≡ arcArrival (departure .number) interval metres (now (fences .entry)) (now (speeds .entry)) ⌝ }
 {
     let tick = departure.number;
     if !interval_count_keeps(fences) {
@@ -40,9 +46,17 @@ pub fn arc_arrival(departure: Tick, metres: u32, fences: &[u32], speeds: &[u8]) 
     if Tick::LAST < tick {
         return ArcArrival::Refused(Refusal::DepartureAfterLast);
     }
-    let interval = interval_of(fences, 0, tick);
-    match drive(tick, interval, metres, fences, speeds) {
-        Arrival::At(arrival) => ArcArrival::At(arrival),
+    if !contains(fences, interval as usize, tick) {
+        return ArcArrival::Refused(Refusal::DepartureInterval);
+    }
+    match drive(tick, interval as usize, metres, fences, speeds) {
+        Arrival::At {
+            tick: arrival,
+            interval: arrives_in,
+        } => ArcArrival::At {
+            tick: arrival,
+            interval: arrives_in as u32,
+        },
         Arrival::Never => ArcArrival::CannotBeDriven,
     }
 }

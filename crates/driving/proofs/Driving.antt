@@ -1,34 +1,29 @@
 -- The engine's turns, each over the piece from the current tick to its interval's end: on an arc that keeps the rules, the arrival from here
--- with the spans left is the whole's. A piece that covers them ends it, and any other hands it on to the next, past midnight to the first of
--- the next day. Midnight after the second day is the last tick.
-use Prim.Native.Nat.{ℕ, suc, _+_, _-_, _*_, _/_, _≤_, _<_, min}
+-- with the spans left is the whole's. A piece that covers them ends it, in its own interval or, at its end, in the next; any other hands it on
+-- to the next, past midnight to the first of the next day. Midnight after the second day is the last tick.
+use Prim.Native.Nat.{ℕ, suc, _+_, _-_, _*_, _/_, _%_, _≤_, _<_, min}
 use mathlib.Core.Path.{_≡_, sym, ap, _∙_}
 use mathlib.Core.Bool.{cond}
 use mathlib.Core.List.{List}
 use mathlib.Core.Logic.{⊎-elim}
-use native.Mathlib.Nat.{add-zero, div-le-self, div-add-mod', mod-lt}
+use mathlib.Core.Option.{some}
+use native.Mathlib.Nat.{add-zero, div-add-mod', mod-lt}
 use native.Mathlib.Numerals.{add-one}
 use native.Mathlib.Omega.{arith}
-use mir.Syntax.{w8, w32, w64}
+use mir.Syntax.{w32}
 use mir.Val.{Fits}
 use lib.Dec.{leb, ltb}
 use lib.ListN.{length, getD, List·getD-eq-default}
 use borrow.Author.Tests.{le-leb, lt-leb, le-ltb, lt-ltb}
 use Rattle.model.specs.Ticks.{day, last, never}
 use Rattle.model.specs.Flow.{spansOf, arrival, ticksFor, Piece}
-use Rattle.model.specs.Intervals.{timeOfDay, passed, intervalOf, speedAt}
+use Rattle.model.specs.Intervals.{timeOfDay, passed, intervalOf, intervalAfter, speedAt, tickAndInterval?}
 use Rattle.model.proofs.Entries.{getD-inside}
 use Rattle.model.proofs.Tests.{ltb-cases}
-use Rattle.model.proofs.Pieces.{arrival-over-piece, never-from-last}
+use Rattle.model.proofs.Pieces.{ticks-within, arrival-over-piece, never-from-last}
 use Rattle.model.proofs.Passed.{passed-before}
-use Rattle.model.proofs.IntervalPieces.{some-passed, counted-at-fence, interval-is-piece}
+use Rattle.model.proofs.IntervalPieces.{some-passed, counted-at-fence, same-interval, interval-at-end, interval-is-piece}
 use Rattle.driving.specs.ArcKept.{ArcKept}
-
--- ---- What keeps the arithmetic within 64 bits
-
-pub ticks-fit : (midnight time left speed : ℕ) → midnight < 4294967296 → time < 4294967296 → left ≤ 154618822656 → Fits w8 speed →
-    Fits w64 (midnight + time + ticksFor left speed)
-ticks-fit midnight time left speed early wide short byte = omega (arith, div-le-self (left + (speed - 1)) speed, byte)
 
 -- ---- The loop's state
 
@@ -104,6 +99,10 @@ module _ {departure interval metres : ℕ} {fences speeds : List ℕ} where
   -- A turn: interval k with its end, and the spans that it covers.
   module _ {midnight k time left : ℕ} (d : Driving departure interval metres fences speeds midnight k time left) {end room : ℕ}
       (end-is : end ≡ getD fences (k + 1) day) (room-is : room ≡ (end - time) * getD speeds k 0) where
+    -- what the interval covers takes no longer than the interval
+    pub by-end : left ≤ room → ticksFor left (getD speeds k 0) ≤ end - time
+    by-end h = ticks-within left (getD speeds k 0) (end - time) (omega arith)
+
     module _ (kept : ArcKept departure interval metres fences speeds) where
       abbrev v : ℕ → ℕ
       v = speedAt fences speeds
@@ -117,10 +116,13 @@ module _ {departure interval metres : ℕ} {fences speeds : List ℕ} where
       end-is-next : end ≡ getD fences (suc k) day
       end-is-next = rw add-one at end-is
 
+      day-by-last : d .days * day + day ≤ last
+      day-by-last = omega (arith, d .is-midnight, d .before-last)
+
       piece : Piece v (midnight + time) (midnight + end) (getD speeds k 0)
       piece =
           rw (d .is-midnight, end-is-next)
-          (interval-is-piece fences (kept .fences-kept) time k (here .in-day) (here .in-interval) (d .days) (omega (arith, d .is-midnight, d .before-last)) speeds)
+          (interval-is-piece fences (kept .fences-kept) time k (here .in-day) (here .in-interval) (d .days) day-by-last speeds)
 
       covers : (midnight + end - (midnight + time)) * getD speeds k 0 ≡ room
       covers = ap (λ n. n * getD speeds k 0) (omega arith) ∙ sym room-is
@@ -129,8 +131,32 @@ module _ {departure interval metres : ℕ} {fences speeds : List ℕ} where
       turn =
           rw (← covers) (sym (arrival-over-piece v (midnight + time) (midnight + end) (getD speeds k 0) left piece (here .some-left)) ∙ here .as-whole)
 
-      pub covered-here : left ≤ room → midnight + time + ticksFor left (getD speeds k 0) ≡ total
-      covered-here h = rw (le-leb left room h) at turn
+      -- the spans left are covered in this interval, and the arrival is by its end
+      module _ (h : left ≤ room) {arrives tick : ℕ} (arrives-is : arrives ≡ time + ticksFor left (getD speeds k 0))
+          (tick-is : tick ≡ (midnight + arrives) % 4294967296) where
+        covered-here : midnight + arrives ≡ total
+        covered-here = omega (arith, rw (le-leb left room h) at turn)
+
+        answers : {number : ℕ} → intervalOf fences (midnight + arrives) ≡ number → some (tick, number) ≡ tickAndInterval? fences total
+        answers {number} in-interval =
+            let in-time : midnight + arrives ≤ last = omega (arith, by-end h, piece .forward, piece .in-time) in
+            let same : tick ≡ midnight + arrives = omega arith in
+            rw (← covered-here, le-leb (midnight + arrives) last in-time, in-interval, same)
+
+        pub arrives-within : arrives < end → some (tick, k) ≡ tickAndInterval? fences total
+        arrives-within before =
+            answers
+            (same-interval fences (kept .fences-kept) time k (here .in-day) (here .in-interval) (d .days) day-by-last (midnight + arrives)
+            (omega (arith, d .is-midnight)) (omega (arith, d .is-midnight, end-is-next)))
+
+        pub arrives-at-end : end ≤ arrives → {next : ℕ} → next ≡ intervalAfter (min (length fences) (length speeds)) k →
+            some (tick, next) ≡ tickAndInterval? fences total
+        arrives-at-end late {next} next-is =
+            let at-end : midnight + arrives ≡ d .days * day + getD fences (suc k) day = omega (arith, d .is-midnight, end-is-next, by-end h, piece .forward) in
+            let intervals : min (length fences) (length speeds) ≡ length fences = omega (arith, kept .as-many) in
+            answers
+            (rw (at-end, next-is, intervals)
+            (interval-at-end fences (kept .fences-kept) time k (here .in-day) (here .in-interval) (d .days) day-by-last (kept .some-interval)))
 
       later : room < left → arrival v (left - room) (midnight + end) ≡ total
       later h = rw (lt-leb left room h) at turn

@@ -1,4 +1,4 @@
--- A departure with its interval, and an arc that keeps the rules: on these the engine gives the arrival.
+-- A departure with its interval, and an arc that keeps the rules: on these the engine gives the arrival with its interval.
 use Prim.Native.Nat.{ℕ, _≤_}
 use mathlib.Core.Path.{_≡_}
 use mathlib.Core.List.{List}

@@ -1,1 +1,2 @@
 pub mod ArcKept
+pub mod InPlan

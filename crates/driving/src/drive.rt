@@ -1,15 +1,19 @@
 // The arrival on an arc, interval by interval: the engine under every operation that drives one.
 ghost use mathlib.Core.Path.{_≡_};
-ghost use Prim.Native.Nat.{_+_, _-_, _*_, _^_, _<_, _≤_, min};
-ghost use lib.ListN.{length, getD};
-ghost use Rattle.model.specs.Ticks.{day, tick?, arrivedAt};
+ghost use Prim.Native.Nat.{_-_, _*_, _^_, _≤_, min};
+ghost use lib.ListN.{length};
+ghost use Rattle.model.specs.Ticks.{arrivedAt};
 ghost use Rattle.model.specs.Flow.{spansOf, ticksFor, arrival};
-ghost use Rattle.model.specs.Intervals.{speedAt};
+ghost use Rattle.model.specs.Intervals.{speedAt, tickAndInterval?};
 ghost use Rattle.driving.specs.ArcKept.{ArcKept};
+ghost use Rattle.driving.specs.InPlan.{InPlan};
+use crate::interval::interval_after;
+use crate::interval::interval_end;
 use crate::interval::time_of_day;
 use model::limit::SPANS_PER_METRE;
 use model::tick::Arrival;
 use model::tick::Tick;
+use std::num::wrapping_add_u32;
 
 // The intervals that have both a fence and a speed.
 fn intervals_of(fences: &[u32], speeds: &[u8]) -> usize
@@ -19,19 +23,6 @@ fn intervals_of(fences: &[u32], speeds: &[u8]) -> usize
         fences.len()
     } else {
         speeds.len()
-    }
-}
-
-// The time of day at which interval k ends: the next fence, and for the last interval midnight.
-fn interval_end(fences: &[u32], k: usize) -> u32
-    requires { ⌜ k < length (now fences) ⌝ }
-    ensures { λ r. ⌜ r ≡ getD (now (fences .entry)) (k + 1) day ⌝ }
-{
-    let next = k + 1;
-    if next < fences.len() {
-        fences[next]
-    } else {
-        Tick::DAY
     }
 }
 
@@ -57,26 +48,15 @@ fn ticks_for(spans: u64, speed: u8) -> u64
     (spans + ((speed - 1) as u64)) / (speed as u64)
 }
 
-// A tick as an arrival: none above the last.
-fn arrival_at(tick: u64) -> Arrival
-    ensures { λ r. ⌜ arrivedAt r ≡ tick? tick ⌝ }
-{
-    if tick <= Tick::LAST as u64 {
-        Arrival::At(Tick {
-            number: tick as u32,
-        })
-    } else {
-        Arrival::Never
-    }
-}
-
 // The arrival of a vehicle that leaves at the departure, which lies in the interval. In turn each interval takes what it covers of the
 // spans left, and the first that covers them all gives the arrival. After the last interval of a day comes the first of the next, until
 // the midnight that is the last tick. An interval of speed 0 covers nothing: the vehicle stands until it ends. The ticks are rounded up
-// once, at the end of the arc. Of an arc that breaks the rules nothing is said but that the call is safe and ends.
+// once, at the end of the arc, where the arrival's interval is known. Of an arc that breaks the rules nothing is said but that the call is
+// safe and ends, and that the interval is one of the plan's.
 pub fn drive(departure: u32, interval: usize, metres: u32, fences: &[u32], speeds: &[u8]) -> Arrival
     ensures { λ r. ⌜ (ArcKept departure interval metres (now (fences .entry)) (now (speeds .entry)) →
-        arrivedAt r ≡ tick? (arrival (speedAt (now (fences .entry)) (now (speeds .entry))) (spansOf metres) departure)) ⌝ }
+        arrivedAt r ≡ tickAndInterval? (now (fences .entry)) (arrival (speedAt (now (fences .entry)) (now (speeds .entry))) (spansOf metres) departure)) ⌝ }
+    ensures { λ r. ⌜ InPlan (now (fences .entry)) r ⌝ }
 {
     let intervals = intervals_of(fences, speeds);
     if intervals <= interval {
@@ -95,7 +75,19 @@ pub fn drive(departure: u32, interval: usize, metres: u32, fences: &[u32], speed
         let end = interval_end(fences, k);
         let room = covered_until(end, time, speed);
         if left <= room {
-            break arrival_at((midnight as u64) + (time as u64) + ticks_for(left, speed));
+            let arrives = time + ticks_for(left, speed) as u32;
+            break Arrival::At {
+                // By the last tick, where the arc keeps the rules: the sum wraps on no such arc.
+                tick: Tick {
+                    number: wrapping_add_u32(midnight, arrives),
+                },
+                // At the interval's end the next one has started.
+                interval: if arrives < end {
+                    k
+                } else {
+                    interval_after(k, intervals)
+                },
+            };
         }
         left -= room;
         time = end;

@@ -1,8 +1,9 @@
-// The interval that contains a tick, by its time of day.
+// The intervals of a day: which one contains a tick, where one ends, and which comes after it.
 ghost use mathlib.Core.Path.{_≡_};
-ghost use Prim.Native.Nat.{_+_, _<_, _≤_};
-ghost use lib.ListN.{length, drop};
-ghost use Rattle.model.specs.Intervals.{FencesKept, timeOfDay, passed, intervalOf};
+ghost use Prim.Native.Nat.{_+_, _<_};
+ghost use lib.ListN.{length, getD};
+ghost use Rattle.model.specs.Ticks.{day};
+ghost use Rattle.model.specs.Intervals.{timeOfDay, passed, intervalOf, intervalAfter, contains?};
 use model::tick::Tick;
 
 // A tick's remainder by the day. A tick of the first day is its own remainder, which saves the division.
@@ -15,11 +16,11 @@ pub(crate) fn time_of_day(tick: u32) -> u32
     tick % Tick::DAY
 }
 
-// How many of the fences a time of day has reached, counted on from some that it has.
-fn fences_passed(fences: &[u32], reached: usize, time: u32) -> usize
-    ensures { λ r. ⌜ r ≡ reached + passed (drop reached (now (fences .entry))) time ⌝ }
+// How many of the fences a time of day has reached.
+fn fences_passed(fences: &[u32], time: u32) -> usize
+    ensures { λ r. ⌜ r ≡ passed (now (fences .entry)) time ⌝ }
 {
-    let mut k = reached;
+    let mut k = 0;
     while k < fences.len() {
         if time < fences[k] {
             return k;
@@ -29,25 +30,50 @@ fn fences_passed(fences: &[u32], reached: usize, time: u32) -> usize
     k
 }
 
-// How many of the fences a time of day has reached at least: those up to an interval's own, if it has reached that one, and else the first
-// alone.
-fn reached_at_least(fences: &[u32], interval: usize, time: u32) -> usize
-    ensures { λ r. ⌜ 1 ≤ r ⌝ }
-    ensures { λ r. ⌜ (FencesKept (now (fences .entry)) → 0 < length (now (fences .entry)) → r ≤ passed (now (fences .entry)) time) ⌝ }
+// The time of day at which interval k ends: the next fence, and for the last interval midnight.
+pub(crate) fn interval_end(fences: &[u32], k: usize) -> u32
+    requires { ⌜ k < length (now fences) ⌝ }
+    ensures { λ r. ⌜ r ≡ getD (now (fences .entry)) (k + 1) day ⌝ }
 {
-    if interval < fences.len() {
-        if fences[interval] <= time {
-            return interval + 1;
-        }
+    let next = k + 1;
+    if next < fences.len() {
+        fences[next]
+    } else {
+        Tick::DAY
     }
-    1
 }
 
-// The number of the interval that contains a tick. It is looked for from a near one on, or from the first where the tick's time of day
-// comes before that, as it may past midnight.
-pub fn interval_of(fences: &[u32], near: usize, tick: u32) -> usize
-    ensures { λ r. ⌜ (FencesKept (now (fences .entry)) → 0 < length (now (fences .entry)) → r ≡ intervalOf (now (fences .entry)) tick) ⌝ }
+// The interval after another: after the last of a day comes the first of the next.
+pub(crate) fn interval_after(k: usize, intervals: usize) -> usize
+    requires { ⌜ k < intervals ⌝ }
+    ensures { λ r. ⌜ r ≡ intervalAfter intervals k ⌝ }
+    ensures { λ r. ⌜ r < intervals ⌝ }
 {
+    let next = k + 1;
+    if next < intervals { next } else { 0 }
+}
+
+// The number of the interval that contains a tick.
+pub fn interval_of(fences: &[u32], tick: u32) -> usize
+    ensures { λ r. ⌜ r ≡ intervalOf (now (fences .entry)) tick ⌝ }
+{
+    let reached = fences_passed(fences, time_of_day(tick));
+    if reached == 0 {
+        return 0;
+    }
+    reached - 1
+}
+
+// Whether an interval contains a tick.
+pub fn contains(fences: &[u32], interval: usize, tick: u32) -> bool
+    ensures { λ r. ⌜ r ≡ contains? (now (fences .entry)) interval tick ⌝ }
+{
+    if fences.len() <= interval {
+        return false;
+    }
     let time = time_of_day(tick);
-    fences_passed(fences, reached_at_least(fences, near, time), time) - 1
+    if time < fences[interval] {
+        return false;
+    }
+    time < interval_end(fences, interval)
 }

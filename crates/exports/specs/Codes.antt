@@ -1,7 +1,6 @@
 -- The number that each function for C answers, from what its operation comes to.
 use Prim.Native.Nat.{ℕ, _+_, _*_, _^_}
 use mathlib.Core.Option.{Option, none, some}
-use Rattle.model.specs.Ticks.{never}
 use Rattle.refusals.specs.Refusals.{refusalBase}
 use Rattle.model.specs.Rules.{Outcome, refused, replied}
 use Rattle.townfile.specs.FirstFault.{Reading, refusedAt, accepted}
@@ -13,11 +12,11 @@ abbrev pub numberOr0 : Outcome (Unit {0}) → ℕ
 numberOr0 (refused number) = number
 numberOr0 (replied tt) = 0
 
--- Arc arrival: the refusal's code, the tick, or `never` where the arc cannot be driven.
-abbrev pub arrivalCode : Outcome (Option ℕ) → ℕ
-arrivalCode (refused number) = refusalBase + number
-arrivalCode (replied (some tick)) = tick
-arrivalCode (replied none) = never
+-- Arc arrival: tick + interval × 2^32; 2^62 where the arc cannot be driven; 2^63 + the refusal's number.
+abbrev pub arrivalCode : Outcome (Option (ℕ × ℕ)) → ℕ
+arrivalCode (refused number) = 2 ^ 63 + number
+arrivalCode (replied (some (tick, interval))) = tick + interval * 2 ^ 32
+arrivalCode (replied none) = 2 ^ 62
 
 -- Route: the refusal's code, or the number of arcs.
 abbrev pub countCode : Outcome ℕ → ℕ

@@ -7,12 +7,14 @@ ghost use Rattle.labelling.specs.Labels.{labelsAnswer, labelsAfter, predecessor
 ghost use Rattle.sheeting.specs.Sheet.{sheetAnswer, sheetLabelsAfter, sheetFiguresAfter};
 ghost use Rattle.routing.specs.Route.{routeAnswer, arcsAfter};
 ghost use Rattle.exports.specs.Codes.{numberOr0, arrivalCode, countCode};
+use crate::bit::BIT_32;
+use crate::bit::BIT_62;
+use crate::bit::BIT_63;
 use arriving::arc::ArcArrival;
 use arriving::arc::arc_arrival;
 use checking::network::NetworkCheck;
 use checking::network::network_check;
 use labelling::labels::Labelled;
-use model::label::UNREACHED;
 use model::tick::Tick;
 use routing::route::Routed;
 use routing::route::route;
@@ -37,20 +39,24 @@ pub extern "C" fn exports_network_check(
     }
 }
 
-// The tick, 4,294,967,295 where the arc cannot be driven, or the refusal's code.
+// tick + interval × 2^32; 2^62 where the arc cannot be driven; 2^63 + the refusal's number.
 #[no_mangle]
 pub extern "C" fn exports_arc_arrival(
     departure: u32,
+    interval: u32,
     metres: u32,
     fences: &[u32],
     speeds: &[u8],
-) -> u32
-    ensures { λ r. ⌜ r ≡ arrivalCode (arcArrival departure metres (now (fences .entry)) (now (speeds .entry))) ⌝ }
+) -> u64
+    ensures { λ r. ⌜ r ≡ arrivalCode (arcArrival departure interval metres (now (fences .entry)) (now (speeds .entry))) ⌝ }
 {
-    match arc_arrival(Tick { number: departure }, metres, fences, speeds) {
-        ArcArrival::At(tick) => tick.number,
-        ArcArrival::CannotBeDriven => UNREACHED,
-        ArcArrival::Refused(refusal) => refusal.code(),
+    match arc_arrival(Tick { number: departure }, interval, metres, fences, speeds) {
+        ArcArrival::At {
+            tick,
+            interval: arrives_in,
+        } => tick.number as u64 + arrives_in as u64 * BIT_32,
+        ArcArrival::CannotBeDriven => BIT_62,
+        ArcArrival::Refused(refusal) => BIT_63 + refusal.number() as u64,
     }
 }
 

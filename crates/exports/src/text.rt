@@ -4,16 +4,12 @@ ghost use Rattle.townfile.specs.Load.{loadAnswer, tablesAfter};
 ghost use Rattle.townfile.specs.Name.{namePlace};
 ghost use Rattle.townfile.specs.Lent.{lentTables, leftTables};
 ghost use Rattle.exports.specs.Codes.{loadCode, placeCode};
+use crate::bit::BIT_16;
+use crate::bit::BIT_32;
+use crate::bit::BIT_63;
 use loading::load::Loaded;
 use loading::load::load;
 use naming::name::name_place;
-
-const BIT_16: u64 = 1 << 16;
-
-const BIT_32: u64 = 1 << 32;
-
-// Load's answer has it where the text is refused.
-const BIT_63: u64 = 1 << 63;
 
 // junctions + intervals × 2^16 + arcs × 2^32, or 2^63 + the refusal's number × 2^32 + its line.
 #[no_mangle]

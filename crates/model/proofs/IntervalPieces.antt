@@ -1,7 +1,7 @@
 -- The intervals as pieces of constant speed, on any day. From a time of day up to the next fence, or to midnight where there is none, no fence
 -- is reached, so that the interval stays the same; at a fence it is the one that starts there.
 use Prim.Native.Nat.{ℕ, suc, _+_, _-_, _*_, _≤_, _<_}
-use mathlib.Core.Path.{_≡_, ap, _∙_}
+use mathlib.Core.Path.{_≡_, sym, ap, _∙_}
 use mathlib.Core.List.{List}
 use mathlib.Core.Logic.{⊎-elim}
 use native.Mathlib.Nat.{le-refl, le-antisymm, mod-eq-of-lt, mul-add-mod-self-right}
@@ -9,7 +9,7 @@ use native.Mathlib.Omega.{arith}
 use lib.ListN.{length, getD, List·getD-eq-default}
 use Rattle.model.specs.Ticks.{day, last}
 use Rattle.model.specs.Flow.{Piece}
-use Rattle.model.specs.Intervals.{FencesKept, timeOfDay, passed, intervalOf, speedAt}
+use Rattle.model.specs.Intervals.{FencesKept, timeOfDay, passed, intervalOf, intervalAfter, speedAt}
 use Rattle.model.proofs.Tests.{ltb-cases}
 use Rattle.model.proofs.Entries.{getD-inside}
 use Rattle.model.proofs.Passed.{passed-monotone, passed-before, next-no-earlier, reached-counted}
@@ -43,13 +43,28 @@ module _ (fences : List ℕ) (kept : FencesKept fences) (time k : ℕ) (in-day :
 
   -- day d, which ends by the last tick
   module _ (d : ℕ) (by-last : d * day + day ≤ last) where
-    same-interval : (t : ℕ) → d * day + time ≤ t → t < d * day + getD fences (suc k) day → intervalOf fences t ≡ k
+    pub same-interval : (t : ℕ) → d * day + time ≤ t → t < d * day + getD fences (suc k) day → intervalOf fences t ≡ k
     unfolding intervalOf
     same-interval t from before =
         let later : t ≡ d * day + (t - d * day) = omega arith in
         let at : timeOfDay t ≡ t - d * day = ap timeOfDay later ∙ time-on d (t - d * day) (omega (arith, end-in-day)) in
         let reached = ap (passed fences) at in
         omega (arith, passed-monotone fences time (t - d * day) (omega arith), passed-before fences (t - d * day) (suc k) day (λ _. omega arith))
+
+    -- At its end the next interval starts; after the last one that is the first of the next day.
+    pub interval-at-end : 0 < length fences → intervalOf fences (d * day + getD fences (suc k) day) ≡ intervalAfter (length fences) k
+    unfolding intervalOf
+    interval-at-end some =
+        ⊎-elim
+        (λ w.
+        let fence : getD fences (suc k) day ≡ getD fences (suc k) 0 = getD-inside fences (suc k) day 0 (w .1) in
+        let at : timeOfDay (d * day + getD fences (suc k) 0) ≡ getD fences (suc k) 0 = time-on d (getD fences (suc k) 0) (kept .below-day (suc k) (w .1)) in
+        rw (w .0, fence, at) (omega (arith, counted-at-fence fences kept (suc k) (w .1))))
+        (λ w.
+        let midnight : getD fences (suc k) day ≡ day = List·getD-eq-default fences day (w .1) in
+        let at : timeOfDay (d * day + day) ≡ getD fences 0 0 = ap timeOfDay (omega arith) ∙ time-on (suc d) 0 (omega arith) ∙ sym (kept .first-is-0) in
+        rw (w .0, midnight, at) (omega (arith, counted-at-fence fences kept 0 some)))
+        (ltb-cases (suc k) (length fences))
 
     pub interval-is-piece : (speeds : List ℕ) → Piece (speedAt fences speeds) (d * day + time) (d * day + getD fences (suc k) day) (getD speeds k 0)
     unfolding speedAt

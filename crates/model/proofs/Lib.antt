@@ -1,5 +1,6 @@
 pub mod Arrival
 pub mod Certificate
+pub mod Containing
 pub mod Covered
 pub mod Demands
 pub mod Distinct

@@ -1,14 +1,13 @@
--- How many fences a time of day has reached: the number does not fall with time; the fences that it counts can be dropped; the next one
--- after them lies ahead, and until it none is added; and with a fence that is reached, all before it are counted.
-use Prim.Native.Nat.{ℕ, zero, suc, _+_, _≤_, _<_, zero-le, suc-le-suc}
-use mathlib.Core.Path.{_≡_}
+-- How many fences a time of day has reached: the number does not fall with time; the next fence after those that it counts lies ahead, and
+-- until it none is added; a fence is counted only where it is reached; and with a fence that is reached, all before it are counted.
+use Prim.Native.Nat.{ℕ, zero, suc, _≤_, _<_, zero-le, suc-le-suc}
 use mathlib.Core.List.{List, [], _∷_}
 use mathlib.Core.Logic.{⊎-elim}
-use native.Mathlib.Nat.{add-zero, add-suc, le-of-lt, le-of-suc-le-suc}
+use native.Mathlib.Nat.{le-of-lt, le-of-suc-le-suc}
 use native.Mathlib.Omega.{arith}
-use lib.ListN.{length, getD, drop}
+use lib.ListN.{length, getD}
 use borrow.Author.Tests.{le-leb, lt-leb}
-use Rattle.model.specs.Intervals.{passed}
+use Rattle.model.specs.Intervals.{timeOfDay, passed, intervalOf}
 use Rattle.model.proofs.Tests.{leb-cases}
 
 pub passed-monotone : (fences : List ℕ) (s t : ℕ) → s ≤ t → passed fences s ≤ passed fences t
@@ -19,17 +18,6 @@ passed-monotone (f ∷ fs) s t h =
     (λ w. rw (w .0, le-leb f t (omega arith)) (suc-le-suc (passed-monotone fs s t h)))
     (λ w. rw (w .0) zero-le)
     (leb-cases f s)
-
--- After fences that are counted, the rest are counted on.
-pub passed-drop : (k : ℕ) (fences : List ℕ) (t : ℕ) → k ≤ passed fences t → passed (drop k fences) t + k ≡ passed fences t
-unfolding passed
-passed-drop zero fences t h = add-zero (passed fences t)
-passed-drop (suc k) [] t h = absurd (omega arith)
-passed-drop (suc k) (f ∷ fs) t h =
-    ⊎-elim
-    (λ w. rw (w .0, add-suc (passed (drop k fs) t) k, passed-drop k fs t (le-of-suc-le-suc (rw (w .0) at h))))
-    (λ w. absurd (let none : suc k ≤ 0 = rw (w .0) at h in omega arith))
-    (leb-cases f t)
 
 -- Before a fence no more are counted than stand before it.
 pub passed-before : (fences : List ℕ) (t k d : ℕ) → (k < length fences → t < getD fences k d) → passed fences t ≤ k
@@ -42,17 +30,27 @@ passed-before (f ∷ fs) t (suc k) d before =
     (λ w. rw (w .0) zero-le)
     (leb-cases f t)
 
+-- The number of a tick's interval is at most the number of fences, whatever they are.
+pub interval-at-most : (fences : List ℕ) (t : ℕ) → intervalOf fences t ≤ length fences
+unfolding intervalOf
+interval-at-most fences t = omega (arith, passed-before fences (timeOfDay t) (length fences) 0 (λ h. absurd (omega arith)))
+
 -- The first fence that is not counted, or what stands for it where there is none, is no earlier.
 pub next-no-earlier : (fences : List ℕ) (t d : ℕ) → t ≤ d → t ≤ getD fences (passed fences t) d
 unfolding passed
 next-no-earlier [] t d h = h
 next-no-earlier (f ∷ fs) t d h = ⊎-elim (λ w. rw (w .0) (next-no-earlier fs t d h)) (λ w. rw (w .0) (le-of-lt (w .1))) (leb-cases f t)
 
--- A first fence that is counted has been reached.
-first-reached : (fences : List ℕ) (t : ℕ) → 0 < passed fences t → getD fences 0 0 ≤ t
+-- A fence that is counted has been reached.
+pub counted-reached : (fences : List ℕ) (k t : ℕ) → k < passed fences t → getD fences k 0 ≤ t
 unfolding passed
-first-reached [] t some = absurd (omega arith)
-first-reached (f ∷ fs) t some = ⊎-elim (λ w. w .1) (λ w. absurd (let none : 0 < 0 = rw (w .0) at some in omega arith)) (leb-cases f t)
+counted-reached [] k t counted = absurd (omega arith)
+counted-reached (f ∷ fs) zero t counted = ⊎-elim (λ w. w .1) (λ w. absurd (let none : 0 < 0 = rw (w .0) at counted in omega arith)) (leb-cases f t)
+counted-reached (f ∷ fs) (suc k) t counted =
+    ⊎-elim
+    (λ w. counted-reached fs k t (le-of-suc-le-suc (rw (w .0) at counted)))
+    (λ w. absurd (let none : suc k < 0 = rw (w .0) at counted in omega arith))
+    (leb-cases f t)
 
 -- Of fences that rise, one that is reached is counted, with those before it.
 pub reached-counted : (fences : List ℕ) → ((k : ℕ) → suc k < length fences → getD fences k 0 < getD fences (suc k) 0) →
@@ -63,4 +61,4 @@ reached-counted (f ∷ fs) rising zero t inside reached = rw (le-leb f t reached
 reached-counted (f ∷ fs) rising (suc k) t inside reached =
     let others = reached-counted fs (λ i h. rising (suc i) (suc-le-suc h)) k t (le-of-suc-le-suc inside) reached in
     let before : f < getD fs 0 0 = rising 0 (omega arith) in
-    rw (le-leb f t (omega (arith, first-reached fs t (omega arith)))) (suc-le-suc others)
+    rw (le-leb f t (omega (arith, counted-reached fs 0 t (omega arith)))) (suc-le-suc others)

@@ -3,7 +3,7 @@
 use Prim.Native.Nat.{ℕ, suc, _+_, _-_, _*_, _≤_, _<_}
 use mathlib.Core.Path.{_≡_, sym, ap, subst}
 use mathlib.Core.Logic.{⊎-elim}
-use native.Mathlib.Nat.{eq-zero-or-pos, div-lt-iff-lt-mul, le-div-iff-mul-le, mul-zero}
+use native.Mathlib.Nat.{eq-zero-or-pos, div-lt-iff-lt-mul, le-div-iff-mul-le, div-zero, mul-zero}
 use native.Mathlib.Omega.{arith}
 use Rattle.model.specs.Ticks.{last}
 use Rattle.model.specs.Flow.{covered, IsArrival, ticksFor, Piece, ArrivalOverPiece, NeverFromLast}
@@ -19,6 +19,13 @@ ticks-enough spans speed some = omega (arith, div-lt-iff-lt-mul {x = spans + (sp
 ticks-least : (spans speed m : ℕ) → 0 < speed → m < ticksFor spans speed → m * speed < spans
 ticks-least spans speed m some h = omega (arith, le-div-iff-mul-le {x = suc m} {y = spans + (speed - 1)} some .0 h)
 
+pub ticks-within : (spans speed n : ℕ) → spans ≤ n * speed → ticksFor spans speed ≤ n
+ticks-within spans speed n enough =
+    ⊎-elim
+    (λ still. rw still (omega (arith, div-zero (spans + 0))))
+    (λ moving. ⊎-elim (λ w. w .1) (λ w. absurd (omega (arith, ticks-least spans speed n moving (w .1)))) (leb-cases (ticksFor spans speed) n))
+    (eq-zero-or-pos speed)
+
 -- ---- One piece
 
 module _ (v : ℕ → ℕ) (at end speed left : ℕ) (piece : Piece v at end speed) where
@@ -28,8 +35,7 @@ module _ (v : ℕ → ℕ) (at end speed left : ℕ) (piece : Piece v at end spe
   stop : 0 < left → left ≤ (end - at) * speed → IsArrival v left at (at + ticksFor left speed)
   stop some enough =
       let moving : 0 < speed = ⊎-elim (λ z. absurd (omega (arith, mul-zero (end - at), ap (λ (n : ℕ). (end - at) * n) z))) (λ p. p) (eq-zero-or-pos speed) in
-      let in-piece : end - at < ticksFor left speed → ⊥ = λ late. omega (arith, ticks-least left speed (end - at) moving late) in
-      let here : ticksFor left speed ≤ end - at = ⊎-elim (λ w. w .1) (λ w. absurd (in-piece (w .1))) (leb-cases (ticksFor left speed) (end - at)) in
+      let here : ticksFor left speed ≤ end - at = ticks-within left speed (end - at) enough in
       IsArrival.attained (ticksFor left speed) (omega (arith, piece .forward, piece .in-time))
       (omega (arith, at-steady (ticksFor left speed) here, ticks-enough left speed moving))
       (λ m h. omega (arith, at-steady m (omega arith), ticks-least left speed m moving h))

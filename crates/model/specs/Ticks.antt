@@ -1,8 +1,6 @@
 -- "A tick is a tenth of a second. Two constants belong to the tick itself: the day, 864,000, and the last tick, 1,728,000."
 use Prim.Native.Nat.{ℕ}
-use mathlib.Core.Bool.{cond}
 use mathlib.Core.Option.{Option, none, some}
-use lib.Dec.{leb}
 use Rattle.model.specs.declared.tick.Arrival.{Arrival}
 use Rattle.model.specs.declared.tick.Arrival.the-variants.{At, Never}
 
@@ -16,11 +14,7 @@ last = 1728000
 abbrev pub never : ℕ
 never = 4294967295
 
--- An arrival as the tick, if there is one.
-abbrev pub tick? : ℕ → Option ℕ
-tick? t = cond (leb t last) (some t) none
-
--- What the type `Arrival` says.
-abbrev pub arrivedAt : Arrival → Option ℕ
-arrivedAt (At t) = some (t .number)
+-- What the type `Arrival` says: the tick and its interval, if there is a tick.
+abbrev pub arrivedAt : Arrival → Option (ℕ × ℕ)
+arrivedAt (At t interval) = some (t .number, interval)
 arrivedAt Never = none

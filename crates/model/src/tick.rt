@@ -12,8 +12,8 @@ impl Tick {
     pub const LAST: u32 = 1_728_000;
 }
 
-// The arrival on an arc: a tick, or none up to the last tick.
+// The arrival on an arc: a tick with the number of the interval that contains it, or none up to the last tick.
 pub enum Arrival {
-    At(Tick),
+    At { tick: Tick, interval: usize },
     Never,
 }

@@ -6,7 +6,7 @@ use Rattle.refusals.specs.declared.refusal.Refusal.{Refusal}
 use Rattle.refusals.specs.declared.refusal.Refusal.the-variants.{JunctionCount, IntervalCount, ArcCount, TableLength, Fence, ArcEnds, Length, Speed}
 use Rattle.refusals.specs.declared.refusal.Refusal.the-variants.{Source, Departure, BufferLength, Destination, Unreached, ArcListLength, DepartureAfterLast}
 use Rattle.refusals.specs.declared.refusal.Refusal.the-variants.{TextLength, NoLineFeed, LineLength, UnknownMark, MarkOutOfTurn, FieldForm, FieldValue, LineMissing, TableTooShort}
-use Rattle.refusals.specs.declared.refusal.Refusal.the-variants.{DepartureCount, SheetLength}
+use Rattle.refusals.specs.declared.refusal.Refusal.the-variants.{DepartureCount, SheetLength, DepartureInterval}
 
 pub number-fits : (refusal : Refusal) → numberOf refusal < 100
 number-fits JunctionCount = omega arith
@@ -35,3 +35,4 @@ number-fits LineMissing = omega arith
 number-fits TableTooShort = omega arith
 number-fits DepartureCount = omega arith
 number-fits SheetLength = omega arith
+number-fits DepartureInterval = omega arith

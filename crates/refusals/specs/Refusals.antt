@@ -4,7 +4,7 @@ use Rattle.refusals.specs.declared.refusal.Refusal.{Refusal}
 use Rattle.refusals.specs.declared.refusal.Refusal.the-variants.{JunctionCount, IntervalCount, ArcCount, TableLength, Fence, ArcEnds, Length, Speed}
 use Rattle.refusals.specs.declared.refusal.Refusal.the-variants.{Source, Departure, BufferLength, Destination, Unreached, ArcListLength, DepartureAfterLast}
 use Rattle.refusals.specs.declared.refusal.Refusal.the-variants.{TextLength, NoLineFeed, LineLength, UnknownMark, MarkOutOfTurn, FieldForm, FieldValue, LineMissing, TableTooShort}
-use Rattle.refusals.specs.declared.refusal.Refusal.the-variants.{DepartureCount, SheetLength}
+use Rattle.refusals.specs.declared.refusal.Refusal.the-variants.{DepartureCount, SheetLength, DepartureInterval}
 
 abbrev pub numberOf : Refusal → ℕ
 numberOf JunctionCount = 1
@@ -33,6 +33,7 @@ numberOf LineMissing = 27
 numberOf TableTooShort = 28
 numberOf DepartureCount = 30
 numberOf SheetLength = 31
+numberOf DepartureInterval = 46
 
 -- "As 4,294,900,000 + its number": a refusal's code is this and its number.
 abbrev pub refusalBase : ℕ

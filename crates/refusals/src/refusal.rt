@@ -34,6 +34,8 @@ pub enum Refusal {
     // The sheet's.
     DepartureCount,
     SheetLength,
+    // Arc arrival's.
+    DepartureInterval,
 }
 
 impl Refusal {
@@ -71,6 +73,7 @@ impl Refusal {
             Refusal::TableTooShort => 28,
             Refusal::DepartureCount => 30,
             Refusal::SheetLength => 31,
+            Refusal::DepartureInterval => 46,
         }
     }
 

@@ -1,8 +1,7 @@
-// The reckonings of document 01 that are run and not proved, and others around midnight, each on a line with what the operation answers.
+// The reckonings of document 01 that are run and not proved, and others around midnight and with wrong intervals, each on a line with what
+// the operation answers.
 ghost use mathlib.Core.Path.{_≡_};
 ghost use lib.ListN.{length};
-use arriving::arc::ArcArrival;
-use arriving::arc::arc_arrival;
 use labelling::labels::Labelled;
 use labelling::labels::labels;
 use libc::STDOUT_FILENO;
@@ -11,40 +10,13 @@ use refusals::refusal::Refusal;
 use routing::route::Routed;
 use routing::route::route;
 
+mod arcs;
+mod intervals;
 mod midnight;
 
 fn print_refusal(refusal: Refusal) {
     io::write_all(STDOUT_FILENO, b" refused ");
     io::print_decimal(STDOUT_FILENO, refusal.number() as u64);
-}
-
-fn print_arc(answer: ArcArrival) {
-    match answer {
-        ArcArrival::At(tick) => {
-            io::write_all(STDOUT_FILENO, b"arrives at ");
-            io::print_decimal(STDOUT_FILENO, tick.number as u64);
-        }
-        ArcArrival::CannotBeDriven => {
-            io::write_all(STDOUT_FILENO, b"cannot be driven");
-        }
-        ArcArrival::Refused(refusal) => {
-            io::write_all(STDOUT_FILENO, b"refused ");
-            io::print_decimal(STDOUT_FILENO, refusal.number() as u64);
-        }
-    }
-    io::write_all(STDOUT_FILENO, b"\n");
-}
-
-// One interval from tick 0 on, left at tick 0.
-fn print_row(metres: u32, speed: u8) {
-    let fences = [0u32];
-    let speeds = [speed];
-    io::write_all(STDOUT_FILENO, b"length ");
-    io::print_decimal(STDOUT_FILENO, metres as u64);
-    io::write_all(STDOUT_FILENO, b" speed ");
-    io::print_decimal(STDOUT_FILENO, speed as u64);
-    io::write_all(STDOUT_FILENO, b": ");
-    print_arc(arc_arrival(Tick { number: 0 }, metres, &fences, &speeds));
 }
 
 // A label and, after a colon, the predecessor.
@@ -330,9 +302,9 @@ fn print_row_with_just_room() {
 }
 
 fn main() {
-    print_row(100_000, 200);
-    print_row(100_001, 200);
-    print_row(100_000, 201);
+    arcs::print_row(100_000, 200);
+    arcs::print_row(100_001, 200);
+    arcs::print_row(100_000, 201);
     print_table_1(9_000);
     print_table_1(21_000);
     print_table_1(24_000);
@@ -347,4 +319,5 @@ fn main() {
     print_row_without_room();
     print_row_with_just_room();
     midnight::print_rows();
+    intervals::print_rows();
 }

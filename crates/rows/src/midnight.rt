@@ -1,36 +1,26 @@
 // Reckonings around midnight, by document 02, order 2: plans start again.
-use crate::print_arc;
+use crate::arcs::print_drive;
 use crate::print_label;
 use crate::print_refusal;
-use arriving::arc::arc_arrival;
 use labelling::labels::Labelled;
 use labelling::labels::labels;
 use libc::STDOUT_FILENO;
 use model::tick::Tick;
 
-fn print_row(metres: u32, fences: &[u32], speeds: &[u8], departure: u32) {
-    io::write_all(STDOUT_FILENO, b"length ");
-    io::print_decimal(STDOUT_FILENO, metres as u64);
-    io::write_all(STDOUT_FILENO, b" from ");
-    io::print_decimal(STDOUT_FILENO, departure as u64);
-    io::write_all(STDOUT_FILENO, b": ");
-    print_arc(arc_arrival(Tick { number: departure }, metres, fences, speeds));
-}
-
 // A plan that moves one metre a day, in its last tick: left in that tick of either day, and at either midnight.
-fn print_last_tick(departure: u32) {
+fn print_last_tick(departure: u32, interval: u32) {
     let fences = [0u32, 863_999];
     let speeds = [0u8, 36];
     io::write_all(STDOUT_FILENO, b"a metre in the day's last tick, ");
-    print_row(1, &fences, &speeds, departure);
+    print_drive(1, &fences, &speeds, departure, interval);
 }
 
 // A plan that moves 100 metres a day, from tick 100 to tick 200 of it.
-fn print_moving(metres: u32, departure: u32) {
+fn print_moving(metres: u32, departure: u32, interval: u32) {
     let fences = [0u32, 100, 200];
     let speeds = [0u8, 36, 0];
     io::write_all(STDOUT_FILENO, b"100 metres a day, ");
-    print_row(metres, &fences, &speeds, departure);
+    print_drive(metres, &fences, &speeds, departure, interval);
 }
 
 // Two arcs of 10 metres in turn, one of which is twice as fast in one half of the day.
@@ -70,15 +60,15 @@ fn print_halves(morning: u8, evening: u8, departure: u32) {
 }
 
 pub(crate) fn print_rows() {
-    print_last_tick(863_999);
-    print_last_tick(864_000);
-    print_last_tick(1_727_999);
-    print_last_tick(1_728_000);
-    print_moving(150, 0);
-    print_moving(200, 0);
-    print_moving(201, 0);
-    print_moving(1, 864_199);
-    print_moving(1, 864_200);
+    print_last_tick(863_999, 1);
+    print_last_tick(864_000, 0);
+    print_last_tick(1_727_999, 1);
+    print_last_tick(1_728_000, 0);
+    print_moving(150, 0, 0);
+    print_moving(200, 0, 0);
+    print_moving(201, 0, 0);
+    print_moving(1, 864_199, 1);
+    print_moving(1, 864_200, 2);
     print_halves(72, 36, 863_990);
     print_halves(36, 72, 431_990);
 }

@@ -1,4 +1,5 @@
 pub mod Filled
+pub mod KeptIntervals
 pub mod Labelable
 pub mod Linking
 pub mod Links

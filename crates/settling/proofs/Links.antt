@@ -27,7 +27,7 @@ pub record Onward (first : ℕ) (fences heads lengths speeds next : List ℕ) (b
 
 module _ {first : ℕ} {fences heads lengths speeds next : List ℕ} {before : Tables} (d : Drivable first fences heads lengths speeds next before) where
   -- another tree whose matches are played does as well
-  pub drivable-by : {tree : List ℕ} → Tournament tree → Drivable first fences heads lengths speeds next (tables (before .labels) (before .predecessors) tree)
+  pub drivable-by : {tree : List ℕ} → Tournament tree → Drivable first fences heads lengths speeds next (tables (before .labels) (before .predecessors) (before .intervals) tree)
   drivable-by played = record {
     few-arcs = d .few-arcs;
     few-intervals = d .few-intervals;

@@ -3,64 +3,61 @@ use Prim.Native.Nat.{ℕ, _≤_, _<_}
 use mathlib.Core.Path.{_≡_, refl, ap, _∙_}
 use mathlib.Core.Bool.{Bool, true, false, _&&_, cond}
 use mathlib.Core.List.{List}
-use mathlib.Core.Logic.{_⊎_, ⊎-elim, by-cases}
-use mathlib.Core.Option.{none, some}
-use native.Mathlib.Decide.{decLt}
+use mathlib.Core.Logic.{_⊎_, ⊎-elim}
+use mathlib.Core.Option.{none}
 use native.Mathlib.Omega.{arith}
 use lib.Dec.{ltb, eqb}
 use lib.ListN.{length, getD, set, length-set}
-use borrow.Author.Tests.{le-leb, lt-leb, lt-ltb, le-ltb, eq-eqb, ne-eqb}
-use Rattle.model.specs.Ticks.{last, never, tick?}
+use borrow.Author.Tests.{le-leb, lt-ltb, le-ltb, eq-eqb, ne-eqb}
+use Rattle.model.specs.Ticks.{last, never}
+use Rattle.model.specs.Intervals.{tickAndInterval?}
 use Rattle.model.proofs.Tests.{ltb-cases}
 use Rattle.tournament.specs.Tournament.{Tournament, Entered, keyOf}
 use Rattle.settling.specs.code.Offering.{Tables, tables, Leaves, ArcOffered, missed, offered}
 
 -- ---- What the engine answers
 
-pub arrives-at : (t x : ℕ) → some t ≡ tick? x → (t ≡ x) × (x ≤ last)
-arrives-at t x e =
-    by-cases (decLt last x)
-    (λ late. let z : _≡_ {A = ℕ} 0 1 = cc (rw (lt-leb x last late) at e) in absurd (omega arith))
-    (λ in-time. (cc (rw (le-leb x last (omega arith)) at e), omega arith))
-
-pub arrives-never : (x : ℕ) → (x ≤ last) ⊎ (x ≡ never) → none ≡ tick? x → x ≡ never
-arrives-never x in-time e =
+pub arrives-never : (fences : List ℕ) (x : ℕ) → (x ≤ last) ⊎ (x ≡ never) → none ≡ tickAndInterval? fences x → x ≡ never
+arrives-never fences x in-time e =
     ⊎-elim (λ h. let z : _≡_ {A = ℕ} 0 1 = cc (rw (le-leb x last h) at e) in absurd (omega arith)) (λ same. same) in-time
 
 -- ---- What is left
 
-module _ (before : Tables) (a head r : ℕ) where
+module _ (before : Tables) (a head r interval : ℕ) where
   pub leaves-lower : r < getD (before .labels) head 0 → {key : ℕ} {tree : List ℕ} → key ≡ keyOf r head → Entered (before .tree) head key tree →
-      Leaves a head r before (tables (set (before .labels) head r) (set (before .predecessors) head a) tree)
+      Leaves a head r interval before (tables (set (before .labels) head r) (set (before .predecessors) head a) (set (before .intervals) head interval) tree)
   leaves-lower h is-key entered =
       let lower = lt-ltb r (getD (before .labels) head 0) h in
       record {
         labels-are = rw lower;
         predecessors-are = rw lower;
+        intervals-are = rw lower;
         rekeyed = record { entered = λ _. rw is-key at entered; kept = λ l. absurd (omega arith) };
       }
 
   -- where the label is not lowered, the predecessor alone can change
   leaves-labels : getD (before .labels) head 0 ≤ r → (lower : Bool) →
       (eqb r (getD (before .labels) head 0) && ltb a (getD (before .predecessors) head 0)) ≡ lower →
-      Leaves a head r before (tables (before .labels) (cond lower (set (before .predecessors) head a) (before .predecessors)) (before .tree))
+      Leaves a head r interval before
+      (tables (before .labels) (cond lower (set (before .predecessors) head a) (before .predecessors)) (before .intervals) (before .tree))
   leaves-labels h lower e =
       let no-lower = le-ltb r (getD (before .labels) head 0) h in
       record {
         labels-are = rw no-lower;
         predecessors-are = rw (no-lower, e);
+        intervals-are = rw no-lower;
         rekeyed = record { entered = λ l. absurd (omega arith); kept = λ _. refl };
       }
 
   module _ (h : getD (before .labels) head 0 ≤ r) where
     pub leaves-tie : r ≡ getD (before .labels) head 0 → a < getD (before .predecessors) head 0 →
-        Leaves a head r before (tables (before .labels) (set (before .predecessors) head a) (before .tree))
+        Leaves a head r interval before (tables (before .labels) (set (before .predecessors) head a) (before .intervals) (before .tree))
     leaves-tie e lower = leaves-labels h true (rw (eq-eqb r (getD (before .labels) head 0) e, lt-ltb a (getD (before .predecessors) head 0) lower))
 
-    pub leaves-tie-kept : r ≡ getD (before .labels) head 0 → getD (before .predecessors) head 0 ≤ a → Leaves a head r before before
+    pub leaves-tie-kept : r ≡ getD (before .labels) head 0 → getD (before .predecessors) head 0 ≤ a → Leaves a head r interval before before
     leaves-tie-kept e kept = leaves-labels h false (rw (eq-eqb r (getD (before .labels) head 0) e, le-ltb a (getD (before .predecessors) head 0) kept))
 
-    pub leaves-later : (r ≡ getD (before .labels) head 0 → ⊥) → Leaves a head r before before
+    pub leaves-later : (r ≡ getD (before .labels) head 0 → ⊥) → Leaves a head r interval before before
     leaves-later e = leaves-labels h false (rw (ne-eqb r (getD (before .labels) head 0) e))
 
 -- ---- What stays
@@ -69,7 +66,7 @@ set-or-not : (b : Bool) (l : List ℕ) (i v : ℕ) (rest : List ℕ) → length 
 set-or-not true l i v rest same = length-set l i v
 set-or-not false l i v rest same = same
 
-module _ {a head t : ℕ} {before after : Tables} (l : Leaves a head t before after) where
+module _ {a head t interval : ℕ} {before after : Tables} (l : Leaves a head t interval before after) where
   pub labels-stay-long : length (after .labels) ≡ length (before .labels)
   labels-stay-long = ap length (l .labels-are) ∙ set-or-not (ltb t (getD (before .labels) head 0)) (before .labels) head t (before .labels) refl
 

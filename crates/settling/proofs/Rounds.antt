@@ -42,8 +42,8 @@ module _ {N : Network} (fit : TablesFit N) where
   module _ {source departure : ℕ} {first next : List ℕ} {settled : List Bool} {t : Tables}
       (b : Between N source departure first next settled t) {junction : ℕ} (inside : junction < 200)
       (waits : Waits (t .labels) settled junction) (nearest : ByLast (t .labels) → Nearest (t .labels) settled junction) where
-    pub between-goes-on : {settled′ : List Bool} {u : Tables} {interval : ℕ} →
-        Settles junction interval (N .fences) (N .heads) (N .lengths) (N .speeds) first next settled settled′ t u →
+    pub between-goes-on : {settled′ : List Bool} {u : Tables} →
+        Settles junction (N .fences) (N .heads) (N .lengths) (N .speeds) first next settled settled′ t u →
         Between N source departure first next settled′ u
     between-goes-on s = rw (s .settled-is) (record {
       linked = b .linked;
@@ -54,8 +54,7 @@ module _ {N : Network} (fit : TablesFit N) where
           (λ some. omega (arith, first-of N (b .linked) inside some .0, fit .heads-long))
           (stands-settles (b .standing) inside (s .out));
       round = λ q.
-          let in-interval = s .interval-is (q .accepted .fences-kept) (q .accepted .some-interval) in
           let starts =
-          turn-starts q (b .round q) (b .standing .settled-long) waits (nearest (labels-by-last q (b .round q))) (b .linked) in-interval in
+          turn-starts q (b .round q) (b .standing .settled-long) waits (nearest (labels-by-last q (b .round q))) (b .linked) in
           turn-ends q (turn-through q (b .linked) (s .offered) (first-of N (b .linked) inside) starts);
     })

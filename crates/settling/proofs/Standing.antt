@@ -71,7 +71,7 @@ stands-first {junctions} {source} {departure} inside in-time labels-are predeces
 
 module _ {junctions : ℕ} {settled : List Bool} {t : Tables} (s : Standing junctions settled t) where
   pub stands-settles : {tree : List ℕ} {junction : ℕ} → junction < 200 → Entered (t .tree) junction never tree →
-      Standing junctions (set settled junction true) (tables (t .labels) (t .predecessors) tree)
+      Standing junctions (set settled junction true) (tables (t .labels) (t .predecessors) (t .intervals) tree)
   stands-settles {junction} inside e = record {
     settled-long = length-set settled junction true ∙ s .settled-long;
     labels-long = s .labels-long;
@@ -80,7 +80,7 @@ module _ {junctions : ℕ} {settled : List Bool} {t : Tables} (s : Standing junc
     queued = queued-settles (s .queued) (omega (arith, s .settled-long)) e;
   }
 
-  stands-leaves : {a head tick : ℕ} {after : Tables} → head < junctions → getD settled head false ≡ false → Leaves a head tick t after →
+  stands-leaves : {a head tick interval : ℕ} {after : Tables} → head < junctions → getD settled head false ≡ false → Leaves a head tick interval t after →
       Standing junctions settled after
   stands-leaves {head} {tick} inside waits l = record {
     settled-long = s .settled-long;

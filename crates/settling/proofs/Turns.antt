@@ -1,7 +1,7 @@
 -- The labelling of an accepted network, by its loops. Between the turns of the outer loop every arc of a settled junction has offered
--- (`Round`); between those of the inner loop the arcs of the settled junction before arc a have (`Turn`).
+-- (`Round`); between those of the inner loop the arcs of the settled junction before arc a have (`Turn`). Beside each label stands its interval.
 use Prim.Native.Nat.{ℕ, suc, _≤_, _<_}
-use mathlib.Core.Path.{_≡_, sym, _∙_}
+use mathlib.Core.Path.{_≡_, sym, ap, _∙_}
 use mathlib.Core.Bool.{Bool, true, false, _&&_, cond}
 use mathlib.Core.List.{List}
 use mathlib.Core.Logic.{_⊎_, inl, inr, ⊎-elim, by-cases}
@@ -11,11 +11,12 @@ use native.Mathlib.Omega.{arith}
 use lib.Dec.{ltb, eqb}
 use lib.ListN.{length, getD, set, replicate, length-take, length-drop}
 use lib.Seq.{getD-set-same, getD-set-other}
-use Rattle.model.specs.Ticks.{last, never, tick?}
-use Rattle.model.specs.Intervals.{intervalOf}
+use Rattle.model.specs.Ticks.{last, never}
+use Rattle.model.specs.Intervals.{intervalOf, tickAndInterval?}
 use Rattle.model.specs.Network.{Network, Accepted, arcs, intervals, speedOn, driveOf, netOf, arcSpeeds}
 use Rattle.model.specs.Labels.{noArc, labelsOf, predecessorsOf}
 use Rattle.model.proofs.Arrival.{arrival-by-last}
+use Rattle.model.proofs.Containing.{told-at}
 use Rattle.model.proofs.Entries.{getD-inside, getD-all}
 use Rattle.model.proofs.Networks.{accepted-sound}
 use Rattle.model.proofs.Tests.{ltb-cases, eqb-cases}
@@ -24,9 +25,11 @@ use Rattle.driving.specs.ArcKept.{ArcKept}
 use Rattle.tournament.specs.Tournament.{Least}
 use Rattle.settling.specs.code.Linked.{arcFrom, Linked}
 use Rattle.settling.specs.code.Offering.{Tables, tables, lowered, taken, ArrivesOn, Leaves, ArcOffered, AllOffered, none-left, skips, offers}
+use Rattle.settling.specs.code.Rounds.{IntervalsKept}
+use Rattle.settling.proofs.KeptIntervals.{kept-first, kept-by, kept-offered}
 use Rattle.settling.proofs.Linking.{arc-from, arc-from-least}
 use Rattle.settling.proofs.Links.{arc-inside}
-use Rattle.settling.proofs.Offered.{arrives-at, arrives-never}
+use Rattle.settling.proofs.Offered.{arrives-never}
 use Rattle.settling.proofs.Queue.{Queued, Waits, Nearest, ByLast, none-waits}
 use Rattle.settling.proofs.Settling.{
   Settling,
@@ -67,13 +70,16 @@ Done N settled b = getD settled (getD (N .tails) b 0) false ≡ true
 pub record Round (N : Network) (source departure : ℕ) (settled : List Bool) (t : Tables) : Type 0 where
   pub tick : ℕ
   pub settling : Settling (netOf N) source departure tick settled (Done N settled) (t .labels) (t .predecessors)
+  pub intervals-kept : IntervalsKept (N .fences) t
 
 module _ {N : Network} {source departure : ℕ} (q : Taken N source departure) where
-  pub round-starts : {t : Tables} → t .labels ≡ set (replicate (N .junctions) never) source departure →
-      t .predecessors ≡ replicate (N .junctions) noArc → Round N source departure (replicate 200 false) t
-  round-starts l p = record {
+  pub round-starts : {t : Tables} {interval : ℕ} → t .labels ≡ set (replicate (N .junctions) never) source departure →
+      t .predecessors ≡ replicate (N .junctions) noArc → interval ≡ intervalOf (N .fences) departure → t .intervals ≡ set (replicate 200 0) source interval →
+      Round N source departure (replicate 200 false) t
+  round-starts {t} {interval} l p in-interval k = record {
     tick = departure;
     settling = settling-starts (q .source-below) (omega (arith, q .departure-below)) l p (getD-all 200 false) (λ b h d. d);
+    intervals-kept = kept-first (N .fences) t (N .junctions) source departure interval (q .source-below) (omega (arith, q .source-below, q .accepted .junctions-fit)) l k in-interval;
   }
 
   module _ {settled : List Bool} {t : Tables} (r : Round N source departure settled t) where
@@ -104,6 +110,7 @@ pub record Turn (N : Network) (source departure : ℕ) (settled : List Bool) (ju
   pub junction-settled : getD settled junction false ≡ true
   pub tick-is : getD (t .labels) junction never ≡ tick
   pub interval-is : interval ≡ intervalOf (N .fences) tick
+  pub intervals-kept : IntervalsKept (N .fences) t
 
 -- The first arc of a tail from an arc on is none or an arc with that tail.
 arc-known : (N : Network) (junction p : ℕ) → p ≤ arcs N → {a : ℕ} → a ≡ arcFrom (N .tails) junction p → OfJunction N junction a
@@ -208,12 +215,12 @@ module _ (N : Network) {first next : List ℕ} (linked : Linked (N .tails) first
 -- ---- The inner loop's turns
 
 module _ {N : Network} {source departure : ℕ} (q : Taken N source departure) where
-  pub turn-starts : {settled : List Bool} {t : Tables} {tree first next : List ℕ} {junction interval : ℕ} →
+  pub turn-starts : {settled : List Bool} {t : Tables} {tree first next : List ℕ} {junction : ℕ} →
       Round N source departure settled t → length settled ≡ 200 → Waits (t .labels) settled junction → Nearest (t .labels) settled junction →
-      Linked (N .tails) first next → interval ≡ intervalOf (N .fences) (getD (t .labels) junction 0) →
-      Turn N source departure (set settled junction true) junction (getD (t .labels) junction 0) interval (getD first junction 0)
-      (tables (t .labels) (t .predecessors) tree)
-  turn-starts {settled} {t} {first} {junction} r settled-long waits nearest linked in-interval =
+      Linked (N .tails) first next →
+      Turn N source departure (set settled junction true) junction (getD (t .labels) junction 0) (getD (t .intervals) junction 0) (getD first junction 0)
+      (tables (t .labels) (t .predecessors) (t .intervals) tree)
+  turn-starts {settled} {t} {first} {junction} r settled-long waits nearest linked =
       let is-junction : junction < N .junctions = omega (arith, r .settling .labels-long, waits .inside) in
       let has-flag : junction < length settled = omega (arith, q .accepted .junctions-fit) in
       let same : getD (t .labels) junction never ≡ getD (t .labels) junction 0 = getD-inside (t .labels) junction never 0 (waits .inside) in
@@ -225,7 +232,8 @@ module _ {N : Network} {source departure : ℕ} (q : Taken N source departure) w
         settling = rw (← same) (settling-weakens settles (λ b h d. before-first N settled junction first-is b d));
         junction-settled = getD-set-same settled junction true false has-flag;
         tick-is = same;
-        interval-is = in-interval;
+        interval-is = r .intervals-kept .interval-is junction (waits .inside) (waits .reached) ∙ ap (intervalOf (N .fences)) same;
+        intervals-kept = kept-by (r .intervals-kept);
       }
 
   module _ {settled : List Bool} {first next : List ℕ} {junction tick interval a : ℕ} {t : Tables} (linked : Linked (N .tails) first next)
@@ -245,10 +253,12 @@ module _ {N : Network} {source departure : ℕ} (q : Taken N source departure) w
       junction-settled = turn .junction-settled;
       tick-is = turn .tick-is;
       interval-is = turn .interval-is;
+      intervals-kept = turn .intervals-kept;
     }
 
     -- what the engine answers is the arrival on the arc
-    arrives-on : {arrived : Option ℕ} → ArrivesOn (N .fences) (N .lengths) (N .speeds) a tick interval arrived → arrived ≡ tick? (driveOf N a tick)
+    arrives-on : {arrived : Option (ℕ × ℕ)} → ArrivesOn (N .fences) (N .lengths) (N .speeds) a tick interval arrived →
+        arrived ≡ tickAndInterval? (N .fences) (driveOf N a tick)
     unfolding driveOf speedOn
     arrives-on on = on (arc-kept N (q .accepted) tick interval a (turn .settling .in-time) (turn .interval-is) (at .0))
 
@@ -258,27 +268,32 @@ module _ {N : Network} {source departure : ℕ} (q : Taken N source departure) w
 
     turn-misses : ArrivesOn (N .fences) (N .lengths) (N .speeds) a tick interval Option.none → Turn N source departure settled junction tick interval (getD next a 0) t
     turn-misses on = record {
-      settling = missed (q .accepted) (turn .settling) a (at .0) tail-settled tail-label more (arrives-never (driveOf N a tick) by-last (arrives-on on));
+      settling = missed (q .accepted) (turn .settling) a (at .0) tail-settled tail-label more (arrives-never (N .fences) (driveOf N a tick) by-last (arrives-on on));
       junction-settled = turn .junction-settled;
       tick-is = turn .tick-is;
       interval-is = turn .interval-is;
+      intervals-kept = turn .intervals-kept;
     }
 
-    turn-offers : {arrival : ℕ} {u : Tables} → getD settled (getD (N .heads) a 0) false ≡ false →
-        ArrivesOn (N .fences) (N .lengths) (N .speeds) a tick interval (Option.some arrival) → Leaves a (getD (N .heads) a 0) arrival t u →
-        Turn N source departure settled junction tick interval (getD next a 0) u
-    turn-offers {arrival} {u} waits on leaves = record {
-      settling = rw (labels-are, predecessors-are) (offered (q .accepted) (turn .settling) a (at .0) tail-settled tail-label more waits (omega (arith, arrives .1)));
+    turn-offers : {arrival arrives-in : ℕ} {u : Tables} → getD settled (getD (N .heads) a 0) false ≡ false →
+        ArrivesOn (N .fences) (N .lengths) (N .speeds) a tick interval (Option.some (arrival, arrives-in)) →
+        Leaves a (getD (N .heads) a 0) arrival arrives-in t u → Turn N source departure settled junction tick interval (getD next a 0) u
+    turn-offers {arrival} {arrives-in} {u} waits on leaves = record {
+      settling = rw (labels-are, predecessors-are) (offered (q .accepted) (turn .settling) a (at .0) tail-settled tail-label more waits (omega (arith, arrives .2)));
       junction-settled = turn .junction-settled;
       tick-is = rw labels-are (stays ∙ turn .tick-is);
       interval-is = turn .interval-is;
+      intervals-kept = kept-offered (N .fences) t u a head arrival arrives-in
+          (omega (arith, q .accepted .head-below a (at .0), turn .settling .labels-long))
+          (omega (arith, q .accepted .junctions-fit, turn .settling .labels-long))
+          leaves (arrives .1 ∙ rw (arrives .0)) (turn .intervals-kept);
     }
       where
         head : ℕ
         head = getD (N .heads) a 0
 
-        arrives : (arrival ≡ driveOf N a tick) × (driveOf N a tick ≤ last)
-        arrives = arrives-at arrival (driveOf N a tick) (arrives-on on)
+        arrives : (arrival ≡ driveOf N a tick) × (arrives-in ≡ intervalOf (N .fences) (driveOf N a tick)) × (driveOf N a tick ≤ last)
+        arrives = told-at (N .fences) arrival arrives-in (driveOf N a tick) (arrives-on on)
 
         labels-are : u .labels ≡ lowered (t .labels) head (driveOf N a tick)
         labels-are = rw (arrives .0) at (leaves .labels-are)
@@ -305,4 +320,5 @@ module _ {N : Network} {source departure : ℕ} (q : Taken N source departure) w
   turn-ends {tick} turn = record {
     tick = tick;
     settling = settling-weakens (turn .settling) (λ b h d. (h, d, λ _. omega (arith, q .accepted .arcs-fit)));
+    intervals-kept = turn .intervals-kept;
   }

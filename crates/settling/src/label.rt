@@ -9,6 +9,7 @@ ghost use Rattle.settling.specs.Labelable.{Labelable};
 ghost use Rattle.fitting.specs.Fitting.{Fits};
 use crate::link::link_arcs;
 use crate::settle::settle;
+use driving::interval::interval_of;
 use fitting::fit::fits;
 use model::label::NO_ARC;
 use model::label::UNREACHED;
@@ -61,16 +62,16 @@ fn label_all(
     let mut settled = [false; MAX_JUNCTIONS];
     let mut tree = [UNREACHED; NODES];
     enter(&mut tree, source, key_of(departure, source));
-    // That of the junction settled before; the first one's is looked for from the day's start.
-    let mut interval = 0;
+    // Only the departure's interval is looked up; the engine hands back those of the arrivals.
+    let mut intervals = [0u8; MAX_JUNCTIONS];
+    intervals[source] = interval_of(fences, departure) as u8;
     loop {
         let key = least_key(&tree);
         if key == UNREACHED {
             break;
         }
-        interval = settle(
+        settle(
             junction_of(key),
-            interval,
             fences,
             heads,
             lengths,
@@ -80,6 +81,7 @@ fn label_all(
             &mut settled,
             labels,
             predecessors,
+            &mut intervals,
             &mut tree,
         );
     }

@@ -11,23 +11,26 @@ use tournament::tree::enter;
 use tournament::tree::key_of;
 
 // Offers an arc's arrival to its head: an earlier one lowers its label, and of the arcs that arrive at the label the lowest-numbered
-// is the predecessor. A head whose label is lowered gets that label's key.
+// is the predecessor. A head whose label is lowered gets that label's interval and its key.
 fn offer(
     a: u16,
     head: usize,
     arrival: u32,
+    interval: u8,
     labels: &mut [u32],
     predecessors: &mut [u16],
+    intervals: &mut [u8; MAX_JUNCTIONS],
     tree: &mut [u32; NODES],
 )
-    requires { ⌜ Offerable head (tables (now labels) (now predecessors) (now tree)) ⌝ }
-    ensures { λ _. ⌜ Leaves a head arrival (tables (now (labels .entry)) (now (predecessors .entry)) (now (tree .entry)))
-        (tables (now (labels .exit)) (now (predecessors .exit)) (now (tree .exit))) ⌝ }
+    requires { ⌜ Offerable head (tables (now labels) (now predecessors) (now intervals) (now tree)) ⌝ }
+    ensures { λ _. ⌜ Leaves a head arrival interval (tables (now (labels .entry)) (now (predecessors .entry)) (now (intervals .entry)) (now (tree .entry)))
+        (tables (now (labels .exit)) (now (predecessors .exit)) (now (intervals .exit)) (now (tree .exit))) ⌝ }
 {
     let label = labels[head];
     if arrival < label {
         labels[head] = arrival;
         predecessors[head] = a;
+        intervals[head] = interval;
         enter(tree, head, key_of(arrival, head));
         return;
     }
@@ -43,25 +46,41 @@ fn offer_arc(
     a: u16,
     head: usize,
     tick: u32,
-    interval: usize,
+    interval: u8,
     fences: &[u32],
     lengths: &[u32],
     speeds: &[u8],
     labels: &mut [u32],
     predecessors: &mut [u16],
+    intervals: &mut [u8; MAX_JUNCTIONS],
     tree: &mut [u32; NODES],
 )
     requires { ⌜ HasArc a (now fences) (now lengths) (now speeds) ⌝ }
-    requires { ⌜ Offerable head (tables (now labels) (now predecessors) (now tree)) ⌝ }
+    requires { ⌜ Offerable head (tables (now labels) (now predecessors) (now intervals) (now tree)) ⌝ }
     ensures { λ _. ⌜ ArcOffered (now (fences .entry)) (now (lengths .entry)) (now (speeds .entry)) a head tick interval
-        (tables (now (labels .entry)) (now (predecessors .entry)) (now (tree .entry)))
-        (tables (now (labels .exit)) (now (predecessors .exit)) (now (tree .exit))) ⌝ }
+        (tables (now (labels .entry)) (now (predecessors .entry)) (now (intervals .entry)) (now (tree .entry)))
+        (tables (now (labels .exit)) (now (predecessors .exit)) (now (intervals .exit)) (now (tree .exit))) ⌝ }
 {
     let arc = a as usize;
     let from = arc * fences.len();
     let to = from + fences.len();
-    if let Arrival::At(arrival) = drive(tick, interval, lengths[arc], fences, &speeds[from..to]) {
-        offer(a, head, arrival.number, labels, predecessors, tree);
+    let leaves_in = interval as usize;
+    if let Arrival::At {
+        tick: arrival,
+        interval: arrives_in,
+    } = drive(tick, leaves_in, lengths[arc], fences, &speeds[from..to]) {
+        // A byte holds every interval of a plan.
+        let noted = arrives_in as u8;
+        offer(
+            a,
+            head,
+            arrival.number,
+            noted,
+            labels,
+            predecessors,
+            intervals,
+            tree,
+        );
     }
 }
 
@@ -69,7 +88,7 @@ fn offer_arc(
 pub(crate) fn offer_arcs(
     first: u16,
     tick: u32,
-    interval: usize,
+    interval: u8,
     fences: &[u32],
     heads: &[u16],
     lengths: &[u32],
@@ -78,12 +97,14 @@ pub(crate) fn offer_arcs(
     settled: &[bool; MAX_JUNCTIONS],
     labels: &mut [u32],
     predecessors: &mut [u16],
+    intervals: &mut [u8; MAX_JUNCTIONS],
     tree: &mut [u32; NODES],
 )
-    requires { ⌜ Drivable first (now fences) (now heads) (now lengths) (now speeds) (now next) (tables (now labels) (now predecessors) (now tree)) ⌝ }
+    requires { ⌜ Drivable first (now fences) (now heads) (now lengths) (now speeds) (now next)
+        (tables (now labels) (now predecessors) (now intervals) (now tree)) ⌝ }
     ensures { λ _. ⌜ AllOffered (now (fences .entry)) (now (heads .entry)) (now (lengths .entry)) (now (speeds .entry)) (now (next .entry)) (now (settled .entry)) tick interval
-        first (tables (now (labels .entry)) (now (predecessors .entry)) (now (tree .entry)))
-        (tables (now (labels .exit)) (now (predecessors .exit)) (now (tree .exit))) ⌝ }
+        first (tables (now (labels .entry)) (now (predecessors .entry)) (now (intervals .entry)) (now (tree .entry)))
+        (tables (now (labels .exit)) (now (predecessors .exit)) (now (intervals .exit)) (now (tree .exit))) ⌝ }
 {
     let mut a = first;
     while a != NO_ARC {
@@ -102,6 +123,7 @@ pub(crate) fn offer_arcs(
                 speeds,
                 labels,
                 predecessors,
+                intervals,
                 tree,
             );
         }

@@ -2,18 +2,15 @@
 ghost use Rattle.settling.specs.code.Offering.{tables};
 ghost use Rattle.settling.specs.code.Rounds.{Settleable, Settles};
 use crate::offer::offer_arcs;
-use driving::interval::interval_of;
 use model::label::UNREACHED;
 use model::limit::MAX_ARCS;
 use model::limit::MAX_JUNCTIONS;
 use tournament::tree::NODES;
 use tournament::tree::enter;
 
-// Settles a junction and drives its arcs, and answers the interval of its label. Settled labels never fall, so it is looked for from that of
-// the one before.
+// Settles a junction, and drives its arcs from its label and the interval that is kept beside it.
 pub(crate) fn settle(
     junction: usize,
-    near: usize,
     fences: &[u32],
     heads: &[u16],
     lengths: &[u32],
@@ -23,22 +20,22 @@ pub(crate) fn settle(
     settled: &mut [bool; MAX_JUNCTIONS],
     labels: &mut [u32],
     predecessors: &mut [u16],
+    intervals: &mut [u8; MAX_JUNCTIONS],
     tree: &mut [u32; NODES],
-) -> usize
-    requires { ⌜ Settleable junction (now fences) (now heads) (now lengths) (now speeds) (now first) (now next) (tables (now labels) (now predecessors) (now tree)) ⌝ }
-    ensures { λ r. ⌜ Settles junction r (now (fences .entry)) (now (heads .entry)) (now (lengths .entry)) (now (speeds .entry)) (now (first .entry)) (now (next .entry))
+)
+    requires { ⌜ Settleable junction (now fences) (now heads) (now lengths) (now speeds) (now first) (now next)
+        (tables (now labels) (now predecessors) (now intervals) (now tree)) ⌝ }
+    ensures { λ _. ⌜ Settles junction (now (fences .entry)) (now (heads .entry)) (now (lengths .entry)) (now (speeds .entry)) (now (first .entry)) (now (next .entry))
         (now (settled .entry)) (now (settled .exit))
-        (tables (now (labels .entry)) (now (predecessors .entry)) (now (tree .entry)))
-        (tables (now (labels .exit)) (now (predecessors .exit)) (now (tree .exit))) ⌝ }
+        (tables (now (labels .entry)) (now (predecessors .entry)) (now (intervals .entry)) (now (tree .entry)))
+        (tables (now (labels .exit)) (now (predecessors .exit)) (now (intervals .exit)) (now (tree .exit))) ⌝ }
 {
     settled[junction] = true;
     enter(tree, junction, UNREACHED);
-    let tick = labels[junction];
-    let interval = interval_of(fences, near, tick);
     offer_arcs(
         first[junction],
-        tick,
-        interval,
+        labels[junction],
+        intervals[junction],
         fences,
         heads,
         lengths,
@@ -47,7 +44,7 @@ pub(crate) fn settle(
         settled,
         labels,
         predecessors,
+        intervals,
         tree,
     );
-    interval
 }

@@ -10,9 +10,9 @@ use native.Mathlib.Omega.{arith}
 use lib.Dec.{ltb}
 use lib.ListN.{getD}
 use borrow.Author.Tests.{ltb-true}
-use Rattle.model.specs.Ticks.{day, tick?}
+use Rattle.model.specs.Ticks.{day}
 use Rattle.model.specs.Flow.{covered, firstTick, arrival}
-use Rattle.model.specs.Intervals.{FencesKept, intervalOf, passed, speedAt}
+use Rattle.model.specs.Intervals.{FencesKept, intervalOf, passed, speedAt, tickAndInterval?}
 use Rattle.model.specs.Labels.{offer, offers, within, labelsOf}
 use Rattle.model.specs.Network.{Network, network, netOf, speedOn, driveOf}
 use Rattle.model.specs.NetworkRules.{endsKeep, networkCheck}
@@ -41,9 +41,9 @@ unfolding speedAt intervalOf passed arrival firstTick covered
 driven-on = refl
 
 -- An arc that comes to stand short of its end is driven on after midnight: its two intervals are pieces of constant speed.
-standing-row : Holds (Row.arc 2 (0 ∷ 100 ∷ []) (36 ∷ 0 ∷ []) 99 (some 864001))
-unfolding arcArrival firstBroken every riseFrom fencesKeep passed
-standing-row = ap (λ (t : ℕ). replied (tick? t)) (moves ∙ stands ∙ driven-on)
+standing-row : Holds (Row.arc 2 (0 ∷ 100 ∷ []) (36 ∷ 0 ∷ []) 99 0 (some (864001, 0)))
+unfolding arcArrival firstBroken every riseFrom fencesKeep intervalOf passed
+standing-row = ap (λ (t : ℕ). replied (tickAndInterval? (0 ∷ 100 ∷ []) t)) (moves ∙ stands ∙ driven-on)
   where
     v : ℕ → ℕ
     v = speedAt (0 ∷ 100 ∷ []) (36 ∷ 0 ∷ [])

@@ -1,5 +1,5 @@
 -- "Reckonings to keep. Starred ones form the proved set. A row is length; fences; speeds; departure; arrival." Document 02, order 2: "The
--- starred row with length 2 and departure 99 now arrives at 864,001."
+-- starred row with length 2 and departure 99 now arrives at 864,001." By order 3 a row has the interval of the departure and that of the arrival.
 use Prim.Native.Nat.{ℕ}
 use mathlib.Core.Path.{_≡_}
 use mathlib.Core.List.{List, [], _∷_, _++_}
@@ -13,10 +13,10 @@ use Rattle.townfile.specs.Grammar.{Town, Describes, networkOf, joined}
 use Rattle.townfile.specs.FirstFault.{refusedAt}
 use Rattle.townfile.specs.Load.{Tables, loadAnswer, tablesAfter}
 
--- A row of an arc, whose arrival is none where the arc cannot be driven; one of a town's text, with its labels; two texts that load
--- alike; and a text that is refused.
+-- A row of an arc, whose arrival is a tick and its interval, or none where the arc cannot be driven; one of a town's text, with its labels;
+-- two texts that load alike; and a text that is refused.
 pub data Row : Type 0 where
-  arc : (metres : ℕ) (fences speeds : List ℕ) (departure : ℕ) (arrival : Option ℕ) → Row
+  arc : (metres : ℕ) (fences speeds : List ℕ) (departure interval : ℕ) (arrival : Option (ℕ × ℕ)) → Row
   town : (text : List ℕ) (source departure : ℕ) (expected : List ℕ) → Row
   alike : (text text′ : List ℕ) → Row
   refuses : (text : List ℕ) (number line : ℕ) → Row
@@ -29,7 +29,7 @@ LabelsAre N source departure expected = (labels predecessors : List ℕ) → len
 -- What a row claims, from the definitions of the operations. The labels of a text are those of the town that it describes. Texts load
 -- alike, or are refused, whatever tables are lent.
 abbrev pub Holds : Row → Type 0
-Holds (arc metres fences speeds departure arrival) = arcArrival departure metres fences speeds ≡ replied arrival
+Holds (arc metres fences speeds departure interval arrival) = arcArrival departure interval metres fences speeds ≡ replied arrival
 Holds (town text source departure expected) = (T : Town) × Describes text T × LabelsAre (networkOf T) source departure expected
 Holds (alike text text′) = (T : Town) × Describes text T × Describes text′ T
     × ((lent : Tables) → (loadAnswer text lent ≡ loadAnswer text′ lent) × (tablesAfter text lent ≡ tablesAfter text′ lent))
@@ -70,14 +70,14 @@ sampleText = joined (sampleLines ++ (comment ∷ []))
 
 abbrev pub starred : List Row
 starred =
-    arc 1 (0 ∷ []) (36 ∷ []) 0 (some 1)
-    ∷ arc 1 (0 ∷ []) (35 ∷ []) 0 (some 2)
-    ∷ arc 1 (0 ∷ []) (10 ∷ []) 0 (some 4)
-    ∷ arc 1 (0 ∷ 100 ∷ []) (0 ∷ 36 ∷ []) 10 (some 101)
-    ∷ arc 1 (0 ∷ 100 ∷ []) (36 ∷ 0 ∷ []) 99 (some 100)
-    ∷ arc 2 (0 ∷ 100 ∷ []) (36 ∷ 0 ∷ []) 99 (some 864001)
-    ∷ arc 1 (0 ∷ []) (1 ∷ []) 1727964 (some 1728000)
-    ∷ arc 1 (0 ∷ []) (1 ∷ []) 1727965 none
+    arc 1 (0 ∷ []) (36 ∷ []) 0 0 (some (1, 0))
+    ∷ arc 1 (0 ∷ []) (35 ∷ []) 0 0 (some (2, 0))
+    ∷ arc 1 (0 ∷ []) (10 ∷ []) 0 0 (some (4, 0))
+    ∷ arc 1 (0 ∷ 100 ∷ []) (0 ∷ 36 ∷ []) 10 0 (some (101, 1))
+    ∷ arc 1 (0 ∷ 100 ∷ []) (36 ∷ 0 ∷ []) 99 0 (some (100, 1))
+    ∷ arc 2 (0 ∷ 100 ∷ []) (36 ∷ 0 ∷ []) 99 0 (some (864001, 0))
+    ∷ arc 1 (0 ∷ []) (1 ∷ []) 1727964 0 (some (1728000, 0))
+    ∷ arc 1 (0 ∷ []) (1 ∷ []) 1727965 0 none
     ∷ town sampleText 0 10 (10 ∷ 60 ∷ 100 ∷ [])
     ∷ alike sampleText sampleWithoutComment
     ∷ refuses [] 27 1

@@ -6,7 +6,8 @@ use crate::cabinet;
 use crate::comparison::answers::{shown, shown_arc};
 use crate::comparison::{Check, Difference, Outcome};
 use crate::inputs::Random;
-use crate::inputs::networks::{random_arc, random_departure, random_network};
+use crate::inputs::networks::{interval_at, random_arc, random_departure, random_network};
+use crate::reference::Arrival;
 use crate::reference::limits::{DAY, LAST_TICK, MAX_INTERVALS, NO_ARC, UNREACHED};
 
 pub const DAY_LATER: Check = Check {
@@ -25,20 +26,25 @@ pub const LABELS_ROTATED: Check = Check {
     refuses: &[],
 };
 
-/// Leaving a day later arrives a day later, or not at all if that is after the last
-/// tick. One arc after another is asked about until one can be driven from the first
-/// day, so that nothing is found exactly where that drive goes on after midnight.
+/// Leaving a day later in the same interval arrives a day later in the same interval,
+/// or not at all if that is after the last tick. One arc after another is asked about
+/// until one can be driven from the first day, so that nothing is found exactly where
+/// that drive goes on after midnight.
 fn day_later(random: &mut Random) -> Result<Outcome, Difference> {
     loop {
         let (length, fences, speeds) = random_arc(random);
         let departure = random_departure_of_first_day(random, &fences);
+        let interval = interval_at(&fences, departure);
         let arrival = |departure| {
-            let reply = cabinet::arc_arrival(departure, length, &fences, &speeds);
+            let reply = cabinet::arc_arrival(departure, interval, length, &fences, &speeds);
             reply.expect("a good arc")
         };
         let first = arrival(departure);
-        let a_day_after = first.map(|tick| tick + DAY);
-        let expected = a_day_after.filter(|&tick| tick <= LAST_TICK);
+        let a_day_after = first.map(|Arrival { tick, interval }| Arrival {
+            tick: tick + DAY,
+            interval,
+        });
+        let expected = a_day_after.filter(|arrival| arrival.tick <= LAST_TICK);
         let found = arrival(departure + DAY);
         if found != expected {
             return Err(Difference {
@@ -49,7 +55,7 @@ fn day_later(random: &mut Random) -> Result<Outcome, Difference> {
             });
         }
         if first.is_some() {
-            return Ok(driven(expected.unwrap_or(UNREACHED)));
+            return Ok(driven(expected));
         }
     }
 }

@@ -6,23 +6,23 @@ use mathlib.Core.List.{List}
 use mathlib.Core.Option.{Option, none, some}
 use lib.Dec.{ltb, eqb}
 use lib.ListN.{length, getD, set}
-use Rattle.model.specs.Ticks.{tick?}
 use Rattle.model.specs.Limits.{maxJunctions, maxArcs, maxIntervals}
 use Rattle.model.specs.Labels.{noArc}
 use Rattle.model.specs.Flow.{spansOf, arrival}
-use Rattle.model.specs.Intervals.{speedAt}
+use Rattle.model.specs.Intervals.{speedAt, tickAndInterval?}
 use Rattle.model.specs.Network.{arcSpeeds}
 use Rattle.driving.specs.ArcKept.{ArcKept}
 use Rattle.tournament.specs.Tournament.{Tournament, Entered, keyOf}
 
--- What the labelling writes: both buffers, and the tournament of the junctions that are reached and not settled.
+-- What the labelling writes: both buffers, the interval of each label, and the tournament of the junctions that are reached and not settled.
 pub record Tables : Type 0 where
   pub labels : List ℕ
   pub predecessors : List ℕ
+  pub intervals : List ℕ
   pub tree : List ℕ
 
-abbrev pub tables : List ℕ → List ℕ → List ℕ → Tables
-tables labels predecessors tree = record { labels = labels; predecessors = predecessors; tree = tree }
+abbrev pub tables : List ℕ → List ℕ → List ℕ → List ℕ → Tables
+tables labels predecessors intervals tree = record { labels = labels; predecessors = predecessors; intervals = intervals; tree = tree }
 
 -- ---- An arc's offer
 
@@ -31,13 +31,17 @@ abbrev pub arrivalOn : List ℕ → List ℕ → List ℕ → ℕ → ℕ → �
 arrivalOn fences lengths speeds a t = arrival (speedAt fences (arcSpeeds fences speeds a)) (spansOf (getD lengths a 0)) t
 
 -- What driving the arc comes to, where the arc keeps the rules.
-abbrev pub ArrivesOn : List ℕ → List ℕ → List ℕ → ℕ → ℕ → ℕ → Option ℕ → Type 0
+abbrev pub ArrivesOn : List ℕ → List ℕ → List ℕ → ℕ → ℕ → ℕ → Option (ℕ × ℕ) → Type 0
 ArrivesOn fences lengths speeds a tick interval arrived =
-    ArcKept tick interval (getD lengths a 0) fences (arcSpeeds fences speeds a) → arrived ≡ tick? (arrivalOn fences lengths speeds a tick)
+    ArcKept tick interval (getD lengths a 0) fences (arcSpeeds fences speeds a) → arrived ≡ tickAndInterval? fences (arrivalOn fences lengths speeds a tick)
 
 -- An earlier arrival lowers the head's label.
 abbrev pub lowered : List ℕ → ℕ → ℕ → List ℕ
 lowered labels head t = cond (ltb t (getD labels head 0)) (set labels head t) labels
+
+-- A head whose label is lowered gets the interval of its new label.
+abbrev pub noted : List ℕ → List ℕ → ℕ → ℕ → ℕ → List ℕ
+noted labels intervals head t interval = cond (ltb t (getD labels head 0)) (set intervals head interval) intervals
 
 -- Of the arcs that arrive at the head's label, the lowest-numbered is its predecessor.
 abbrev pub taken : List ℕ → List ℕ → ℕ → ℕ → ℕ → List ℕ
@@ -64,16 +68,18 @@ pub record Offerable (head : ℕ) (before : Tables) : Type 0 where
   pub has-predecessor : head < length (before .predecessors)
   pub tournament : Tournament (before .tree)
 
--- What an offer leaves that arrives at the tick t.
-pub record Leaves (a head t : ℕ) (before after : Tables) : Type 0 where
+-- What an offer leaves that arrives at the tick t in the interval.
+pub record Leaves (a head t interval : ℕ) (before after : Tables) : Type 0 where
   pub labels-are : after .labels ≡ lowered (before .labels) head t
   pub predecessors-are : after .predecessors ≡ taken (before .labels) (before .predecessors) head t a
+  pub intervals-are : after .intervals ≡ noted (before .labels) (before .intervals) head t interval
   pub rekeyed : Rekeyed (before .labels) (before .tree) head t (after .tree)
 
 -- What driving an arc leaves: where it does not arrive by the last tick, all is as it was.
 pub data ArcOffered (fences lengths speeds : List ℕ) (a head tick interval : ℕ) : Tables → Tables → Type 0 where
   missed : {t : Tables} → ArrivesOn fences lengths speeds a tick interval none → ArcOffered fences lengths speeds a head tick interval t t
-  offered : {arrival : ℕ} {t u : Tables} → ArrivesOn fences lengths speeds a tick interval (some arrival) → Leaves a head arrival t u →
+  offered : {arrival arrives-in : ℕ} {t u : Tables} → ArrivesOn fences lengths speeds a tick interval (some (arrival, arrives-in)) →
+      Leaves a head arrival arrives-in t u →
       ArcOffered fences lengths speeds a head tick interval t u
 
 -- ---- The offers of a junction's arcs

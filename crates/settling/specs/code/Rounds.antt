@@ -1,24 +1,45 @@
 -- A round of the labelling: a junction is settled, and its arcs make their offers.
-use Prim.Native.Nat.{ℕ, _<_}
+use Prim.Native.Nat.{ℕ, _≤_, _<_}
 use mathlib.Core.Path.{_≡_}
 use mathlib.Core.Bool.{Bool, true}
 use mathlib.Core.List.{List}
-use lib.ListN.{length, getD, set}
+use lib.ListN.{length, getD, set, replicate}
 use Rattle.model.specs.Ticks.{never}
-use Rattle.model.specs.Intervals.{FencesKept, intervalOf}
+use Rattle.model.specs.Limits.{maxJunctions}
+use Rattle.model.specs.Intervals.{intervalOf}
 use Rattle.tournament.specs.Tournament.{Entered}
-use Rattle.settling.specs.code.Offering.{Tables, tables, Drivable, AllOffered}
+use Rattle.settling.specs.code.Offering.{Tables, tables, Leaves, Drivable, AllOffered}
 
 -- What it is handed: a junction that has a label, and its arcs.
 pub record Settleable (junction : ℕ) (fences heads lengths speeds first next : List ℕ) (before : Tables) : Type 0 where
   pub has-label : junction < length (before .labels)
   pub drivable : Drivable (getD first junction 0) fences heads lengths speeds next before
 
--- What it leaves, and the interval of the junction's label. The junction leaves the tournament before its arcs are driven.
-pub record Settles (junction interval : ℕ) (fences heads lengths speeds first next : List ℕ) (settled settled′ : List Bool) (before after : Tables) : Type 0 where
+-- What it leaves. The junction leaves the tournament before its arcs are driven, from its label and the interval that is kept beside it.
+pub record Settles (junction : ℕ) (fences heads lengths speeds first next : List ℕ) (settled settled′ : List Bool) (before after : Tables) : Type 0 where
   pub settled-is : settled′ ≡ set settled junction true
-  pub interval-is : FencesKept fences → 0 < length fences → interval ≡ intervalOf fences (getD (before .labels) junction 0)
   pub tree : List ℕ
   pub out : Entered (before .tree) junction never tree
-  pub offered : AllOffered fences heads lengths speeds next (set settled junction true) (getD (before .labels) junction 0) interval (getD first junction 0)
-      (tables (before .labels) (before .predecessors) tree) after
+  pub offered : AllOffered fences heads lengths speeds next (set settled junction true) (getD (before .labels) junction 0)
+      (getD (before .intervals) junction 0) (getD first junction 0)
+      (tables (before .labels) (before .predecessors) (before .intervals) tree) after
+
+-- ---- The intervals beside the labels
+
+-- Document 02, order 3: "The engines pass it on when they leave the next junction." Beside each label that is reached stands its interval. The
+-- labelling keeps this from round to round.
+pub record IntervalsKept (fences : List ℕ) (t : Tables) : Type 0 where
+  pub long : length (t .intervals) ≡ maxJunctions
+  pub interval-is : (j : ℕ) → j < length (t .labels) → getD (t .labels) j never < never → getD (t .intervals) j 0 ≡ intervalOf fences (getD (t .labels) j never)
+
+-- It holds at the start, where the source alone is reached, with the departure's interval.
+abbrev pub IntervalKeptAtStart : Type 0
+IntervalKeptAtStart = (fences : List ℕ) (t : Tables) (junctions source departure interval : ℕ) → source < junctions → source < maxJunctions →
+    t .labels ≡ set (replicate junctions never) source departure → t .intervals ≡ set (replicate maxJunctions 0) source interval →
+    interval ≡ intervalOf fences departure → IntervalsKept fences t
+
+-- It stays with an offer that brings its tick's interval.
+abbrev pub IntervalsKeptByOffer : Type 0
+IntervalsKeptByOffer = (fences : List ℕ) (before after : Tables) (a head tick interval : ℕ) → head < length (before .labels) →
+    length (before .labels) ≤ maxJunctions → Leaves a head tick interval before after → interval ≡ intervalOf fences tick →
+    IntervalsKept fences before → IntervalsKept fences after

@@ -1,11 +1,12 @@
--- `drive::drive` gives the arrival on an arc that keeps the rules: at each turn the arrival from there, with the spans left, is the whole's
--- (`Driving`).
+-- `drive::drive` gives the arrival with its interval on an arc that keeps the rules: at each turn the arrival from there, with the spans left,
+-- is the whole's (`Driving`). On any arc the interval is one that the loop has come to, or the one after it.
 use borrow.Author.Needs.{needs}
-use Prim.Native.Nat.{_+_}
-use mathlib.Core.Path.{refl, ap, _∙_}
+use Prim.Native.Nat.{_-_, _≤_}
+use mathlib.Core.Path.{refl, ap}
 use native.Mathlib.Nat.{mod-le}
 use native.Mathlib.Omega.{arith}
-use Rattle.model.specs.Ticks.{day, tick?}
+use Rattle.model.specs.Ticks.{day}
+use Rattle.model.specs.Intervals.{tickAndInterval?}
 use Rattle.driving.proofs.Driving.{
   Driving,
   turnsLeft,
@@ -14,11 +15,12 @@ use Rattle.driving.proofs.Driving.{
   kept-inside,
   never-leaves,
   driving-starts,
-  covered-here,
+  by-end,
+  arrives-within,
+  arrives-at-end,
   drives-on,
   drives-past-midnight,
   never-arrives,
-  ticks-fit,
 }
 use Rattle.driving.proofs.drive.drive.Statement.{statement}
 use Rattle.driving.proofs.drive.drive.Tie as tie
@@ -38,10 +40,10 @@ abbrev counted : tie.At-loop Inv-loop μ-loop → tie.After-intervals-of Inv-loo
 counted c = c .before .before .before .before
 
 returns : tie.Need-returns Inv-loop μ-loop
-returns c kept = absurd (omega (arith, c .if1 .taken, c .before .intervals-of .ensures, kept-inside kept))
+returns c = ((λ kept. absurd (omega (arith, c .if1 .taken, c .before .intervals-of .ensures, kept-inside kept))), tt)
 
 returns-2 : tie.Need-returns-2 Inv-loop μ-loop
-returns-2 c kept = ap tick? (never-leaves kept (c .if2 .taken))
+returns-2 c = ((λ kept. ap (tickAndInterval? _) (never-leaves kept (c .if2 .taken))), tt)
 
 sub-midnight : tie.Need-sub-midnight Inv-loop μ-loop
 sub-midnight c = omega (arith, c .time-of-day .ensures, mod-le (c .before .before .before .before .before .before .args .departure) day)
@@ -61,26 +63,30 @@ shared-slice-read-speed c = omega (arith, c .before .loop .inv .inside)
 interval-end-requires : tie.Need-interval-end-requires Inv-loop μ-loop
 interval-end-requires c κs = omega (arith, c .before .loop .inv .inside)
 
-cast-arrival-at : tie.Need-cast-arrival-at Inv-loop μ-loop
-cast-arrival-at c = omega (arith, at-loop (c .before) .loop .inv .before-last)
-
-cast-arrival-at-2 : tie.Need-cast-arrival-at-2 Inv-loop μ-loop
-cast-arrival-at-2 c = omega (arith, at-loop (c .before) .loop .inv .time-fits)
-
-add-arrival-at : tie.Need-add-arrival-at Inv-loop μ-loop
-add-arrival-at c =
-    let d = at-loop (c .before) .loop .inv in
-    omega (arith, d .before-last, d .time-fits)
-
 ticks-for-requires : tie.Need-ticks-for-requires Inv-loop μ-loop
 ticks-for-requires c κs = omega (arith, at-loop (c .before) .loop .inv .left-fits)
 
-add-arrival-at-2 : tie.Need-add-arrival-at-2 Inv-loop μ-loop
-add-arrival-at-2 c =
+-- the ticks until the interval's end
+within : (c : tie.After-ticks-for Inv-loop μ-loop) →
     let covering = c .before .before in
-    let d = at-loop covering .loop .inv in
+    c .ticks-for .result ≤ covering .before .interval-end .result - at-loop covering .loop .time
+within c =
+    let covering = c .before .before in
     rw (c .ticks-for .ensures)
-    (ticks-fit _ _ _ _ (omega (arith, d .before-last)) (d .time-fits) (d .left-fits) (covering .before .before .shared-slice-known3 .given _))
+    (by-end (at-loop covering .loop .inv) (covering .before .interval-end .ensures) (covering .covered-until .ensures) (c .before .if3 .taken))
+
+cast-arrives : tie.Need-cast-arrives Inv-loop μ-loop
+cast-arrives c = omega (arith, within c, c .before .before .before .interval-end .ok)
+
+add-arrives : tie.Need-add-arrives Inv-loop μ-loop
+add-arrives c =
+    let covering = c .before .before in
+    omega (arith, within c, covering .before .interval-end .ok, at-loop covering .loop .inv .time-fits)
+
+interval-after-requires : tie.Need-interval-after-requires Inv-loop μ-loop
+interval-after-requires c κs =
+    let l = at-loop (c .before .before .before .before) in
+    omega (arith, l .loop .inv .inside, counted l .intervals-of .ensures)
 
 sub-left : tie.Need-sub-left Inv-loop μ-loop
 sub-left c = omega (arith, c .if3 .left)
@@ -99,15 +105,15 @@ loop-less c =
     day-less (counted l .intervals-of .result) (l .loop .midnight) (d .days) (l .loop .k)
     (omega (arith, d .inside, counted l .intervals-of .ensures))
     (d .is-midnight)
-    (omega (arith, c .if5 .left))
+    (omega (arith, c .if6 .left))
 
 loop-again : tie.Need-loop-again Inv-loop μ-loop
 loop-again c =
     let covering = c .before .before .before in
     let l = at-loop covering in
     drives-past-midnight (l .loop .inv) (covering .before .interval-end .ensures) (covering .covered-until .ensures) (c .before .before .if3 .left)
-    (omega (arith, counted l .intervals-of .ensures, c .before .if4 .taken))
-    (omega (arith, c .if5 .left))
+    (omega (arith, counted l .intervals-of .ensures, c .before .if5 .taken))
+    (omega (arith, c .if6 .left))
 
 -- the next interval of the day
 loop-less-2 : tie.Need-loop-less-2 Inv-loop μ-loop
@@ -120,24 +126,44 @@ loop-again-2 c =
     let covering = c .before .before in
     let l = at-loop covering in
     drives-on (l .loop .inv) (covering .before .interval-end .ensures) (covering .covered-until .ensures) (c .before .if3 .left)
-    (omega (arith, l .loop .inv .inside, counted l .intervals-of .ensures, c .if4 .left))
+    (omega (arith, l .loop .inv .inside, counted l .intervals-of .ensures, c .if5 .left))
     (record { fits = covering .before .interval-end .ok })
 
 returns-3 : tie.Need-returns-3 Inv-loop μ-loop
-returns-3 c kept =
-    let covering = c .before .before .before in
-    let l = at-loop covering in
-    let whole = covered-here (l .loop .inv) (covering .before .interval-end .ensures) (covering .covered-until .ensures) kept (c .before .before .if3 .taken) in
-    c .arrival-at .ensures ∙ ap tick? (ap (λ n. l .loop .midnight + l .loop .time + n) (c .before .ticks-for .ensures) ∙ whole)
+returns-3 c =
+    let driven = c .before .before in
+    let covering = driven .before .before in
+    let l = at-loop covering in (
+      (λ kept.
+          arrives-within (l .loop .inv) (covering .before .interval-end .ensures) (covering .covered-until .ensures) kept (driven .before .if3 .taken)
+          (rw (driven .ticks-for .ensures)) (c .before .wrapping-add-u32 .ensures) (omega (arith, c .if4 .taken))),
+      omega (arith, l .loop .inv .inside),
+    )
 
 returns-4 : tie.Need-returns-4 Inv-loop μ-loop
-returns-4 c kept =
+returns-4 c =
+    let summed = c .before .before in
+    let driven = summed .before in
+    let covering = driven .before .before in
+    let l = at-loop covering in (
+      (λ kept.
+          arrives-at-end (l .loop .inv) (covering .before .interval-end .ensures) (covering .covered-until .ensures) kept (driven .before .if3 .taken)
+          (rw (driven .ticks-for .ensures)) (summed .wrapping-add-u32 .ensures) (omega (arith, c .before .if4 .left))
+          (rw (← counted l .intervals-of .ensures) (c .interval-after .ensures .0))),
+      omega (arith, c .interval-after .ensures .1, counted l .intervals-of .ensures),
+    )
+
+returns-5 : tie.Need-returns-5 Inv-loop μ-loop
+returns-5 c =
     let covering = c .before .before .before in
-    let l = at-loop covering in
-    ap tick?
-    (never-arrives (l .loop .inv) (covering .before .interval-end .ensures) (covering .covered-until .ensures) kept (c .before .before .if3 .left)
-    (omega (arith, kept .as-many, counted l .intervals-of .ensures, c .before .if4 .taken))
-    (omega (arith, c .if5 .taken)))
+    let l = at-loop covering in (
+      (λ kept.
+          ap (tickAndInterval? _)
+          (never-arrives (l .loop .inv) (covering .before .interval-end .ensures) (covering .covered-until .ensures) kept (c .before .before .if3 .left)
+          (omega (arith, kept .as-many, counted l .intervals-of .ensures, c .before .if5 .taken))
+          (omega (arith, c .if6 .taken)))),
+      tt,
+    )
 
 pub drive-spec : {M : Type 1} → statement M
 drive-spec =
@@ -150,17 +176,17 @@ drive-spec =
     returns-2
     (λ c κs. search needs)
     sub-midnight
+    (λ c. search needs)
     mul-left
     loop-holds
     shared-slice-read-speed
     interval-end-requires
     (λ c κs. search needs)
-    cast-arrival-at
-    cast-arrival-at-2
-    add-arrival-at
     ticks-for-requires
-    add-arrival-at-2
+    cast-arrives
+    add-arrives
     (λ c κs. search needs)
+    interval-after-requires
     sub-left
     add-k
     add-midnight
@@ -169,4 +195,5 @@ drive-spec =
     loop-less-2
     loop-again-2
     returns-3
-    returns-4)
+    returns-4
+    returns-5)

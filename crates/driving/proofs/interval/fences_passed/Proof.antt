@@ -1,7 +1,8 @@
 -- `interval::fences_passed` counts the fences that the time of day has reached: the invariant says that those left add the rest of the count.
 use borrow.Author.Needs.{needs}
 use Prim.Native.Nat.{_+_, _-_}
-use mathlib.Core.Path.{_≡_, refl}
+use mathlib.Core.Path.{_≡_}
+use native.Mathlib.Nat.{zero-add}
 use lib.ListN.{length, drop}
 use Rattle.model.specs.Intervals.{passed}
 use Rattle.driving.proofs.FenceCount.{passed-stops, passed-goes-on, passed-ends}
@@ -9,13 +10,13 @@ use Rattle.driving.proofs.interval.fences_passed.Statement.{statement}
 use Rattle.driving.proofs.interval.fences_passed.Tie as tie
 
 abbrev Inv-loop : tie.InvT-loop
-Inv-loop fences reached time k₀ k = k + passed (drop k fences) time ≡ reached + passed (drop reached fences) time
+Inv-loop fences time k₀ k = k + passed (drop k fences) time ≡ passed fences time
 
 abbrev μ-loop : tie.MeasureT-loop
-μ-loop fences reached time k₀ k = length fences - k
+μ-loop fences time k₀ k = length fences - k
 
 loop-holds : tie.Need-loop-holds Inv-loop μ-loop
-loop-holds c = refl
+loop-holds c = zero-add _
 
 returns : tie.Need-returns Inv-loop μ-loop
 returns c = passed-stops _ _ _ _ (c .before .before .before .loop .inv) (c .before .before .loop-test .taken) (c .if1 .taken)

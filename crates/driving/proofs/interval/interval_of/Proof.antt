@@ -1,17 +1,17 @@
--- `interval::interval_of`: the fences reached at least and those counted after them are all that the time of day has reached.
+-- `interval::interval_of` is one less than the fences that the tick's time of day has reached, and 0 where it has reached none.
 use borrow.Author.Needs.{needs}
 use native.Mathlib.Omega.{arith}
 use Rattle.model.specs.Intervals.{intervalOf}
-use Rattle.model.proofs.Passed.{passed-drop}
 use Rattle.driving.proofs.interval.interval_of.Statement.{statement}
 use Rattle.driving.proofs.interval.interval_of.Tie as tie
 
 returns : tie.Need-returns
 unfolding intervalOf
-returns c kept some =
-    let reached = c .before .reached-at-least in
-    rw (intervalOf, ← c .before .before .time-of-day .ensures)
-    (omega (arith, c .fences-passed .ensures, passed-drop (reached .result) _ _ (reached .ensures .1 kept some)))
+returns c = rw (← c .before .before .time-of-day .ensures) (omega (arith, c .before .fences-passed .ensures, c .if1 .taken))
+
+returns-2 : tie.Need-returns-2
+unfolding intervalOf
+returns-2 c = rw (← c .before .before .time-of-day .ensures) (omega (arith, c .before .fences-passed .ensures))
 
 pub interval-of-spec : {M : Type 1} → statement M
 interval-of-spec =
@@ -19,6 +19,6 @@ interval-of-spec =
     (tie.spec
     (λ c κs. search needs)
     (λ c κs. search needs)
-    (λ c κs. search needs)
+    returns
     (λ c. search needs)
-    returns)
+    returns-2)

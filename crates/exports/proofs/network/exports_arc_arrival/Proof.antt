@@ -1,6 +1,5 @@
 -- `network::exports_arc_arrival`: the code of what Arc arrival answers.
 use borrow.Author.Needs.{needs}
-use mathlib.Core.Path.{_∙_}
 use Rattle.arriving.specs.ArcArrival.{outcomeOf}
 use Rattle.exports.specs.Codes.{arrivalCode}
 use Rattle.exports.proofs.Coded.{coded}
@@ -8,7 +7,7 @@ use Rattle.exports.proofs.network.exports_arc_arrival.Statement.{statem
 use Rattle.exports.proofs.network.exports_arc_arrival.Tie as tie
 
 returns : tie.Need-returns
-returns c = let told = c .before in coded arrivalCode outcomeOf (told .tick .given .1) (told .before .before .arc-arrival .ensures)
+returns c = let told = c .before .before in coded arrivalCode outcomeOf (told .tick .given .1) (told .before .before .arc-arrival .ensures)
 
 returns-2 : tie.Need-returns-2
 returns-2 c = coded arrivalCode outcomeOf (c .enum-told .given .1) (c .before .before .arc-arrival .ensures)
@@ -16,7 +15,7 @@ returns-2 c = coded arrivalCode outcomeOf (c .enum-told .given .1) (c .before .b
 returns-3 : tie.Need-returns-3
 returns-3 c =
     let told = c .before .before in
-    c .code .ensures ∙ coded arrivalCode outcomeOf (told .refusal .given .1) (told .before .before .arc-arrival .ensures)
+    rw (c .number .ensures) (coded arrivalCode outcomeOf (told .refusal .given .1) (told .before .before .arc-arrival .ensures))
 
 pub exports-arc-arrival-spec : {M : Type 1} → statement M
 exports-arc-arrival-spec =
@@ -26,7 +25,13 @@ exports-arc-arrival-spec =
     (λ c. search needs)
     (λ c. search needs)
     (λ c. search needs)
+    (λ c. search needs)
+    (λ c. search needs)
+    (λ c. search needs)
+    (λ c. search needs)
     (λ c κs. search needs)
+    (λ c. search needs)
+    (λ c. search needs)
     returns
     returns-2
     returns-3)

@@ -10,6 +10,7 @@ use Rattle.model.specs.Ticks.{never}
 use Rattle.model.specs.Labels.{noArc, labelsOf, predecessorsOf}
 use Rattle.model.specs.Network.{Network, network, netOf}
 use Rattle.checking.specs.Question.{Taken}
+use Rattle.model.proofs.Passed.{interval-at-most}
 use Rattle.tournament.proofs.Matches.{equal-keys}
 use Rattle.settling.specs.code.Offering.{tables}
 use Rattle.settling.proofs.Queue.{Waits, Nearest, ByLast, least-waits}
@@ -20,11 +21,11 @@ use Rattle.settling.proofs.label.label_all.Statement.{statement}
 use Rattle.settling.proofs.label.label_all.Tie as tie
 
 abbrev Inv-loop : tie.InvT-loop
-Inv-loop junctions fences tails heads lengths speeds source departure labels₀ predecessors₀ first next settled₀ tree₀ interval₀ labels predecessors settled tree interval =
-    Between (network junctions fences tails heads lengths speeds) source departure first next settled (tables labels predecessors tree)
+Inv-loop junctions fences tails heads lengths speeds source departure labels₀ predecessors₀ first next settled₀ tree₀ intervals₀ labels predecessors settled tree intervals =
+    Between (network junctions fences tails heads lengths speeds) source departure first next settled (tables labels predecessors intervals tree)
 
 abbrev μ-loop : tie.MeasureT-loop
-μ-loop junctions fences tails heads lengths speeds source departure labels₀ predecessors₀ first next settled₀ tree₀ interval₀ labels predecessors settled tree interval = waiting settled
+μ-loop junctions fences tails heads lengths speeds source departure labels₀ predecessors₀ first next settled₀ tree₀ intervals₀ labels predecessors settled tree intervals = waiting settled
 
 -- the start, from the places that follow it
 abbrev start : tie.After-clear Inv-loop μ-loop → tie.Start Inv-loop μ-loop
@@ -34,7 +35,7 @@ abbrev cleared : tie.After-link-arcs Inv-loop μ-loop → tie.After-clear Inv-lo
 cleared c = c .before .before .before .before .before .before .before
 
 abbrev start-of : tie.At-loop Inv-loop μ-loop → tie.Start Inv-loop μ-loop
-start-of c = start (cleared (c .before .before .before .before))
+start-of c = start (cleared (c .before .before .before .before .before))
 
 source-known : (s : tie.Start Inv-loop μ-loop) → s .args .source < 200
 source-known s = omega (arith, s .pre .source-below, s .pre .tables-fit .junctions-fit)
@@ -58,7 +59,7 @@ below : (c : tie.After-junction-of Inv-loop μ-loop) → c .junction-of .result 
 below c = omega (arith, nearest c .0 .inside, at-loop c .loop .inv .standing .labels-long, start-of (at-loop c) .pre .tables-fit .junctions-fit)
 
 abbrev junction-at : tie.After-tree3 Inv-loop μ-loop → tie.After-junction-of Inv-loop μ-loop
-junction-at c = c .before .before .before .before .before .before
+junction-at c = c .before .before .before .before .before .before .before
 
 abbrev settling : tie.After-slice-known6 Inv-loop μ-loop → tie.After-settle Inv-loop μ-loop
 settling c = c .before .before .before .before
@@ -83,18 +84,27 @@ link-arcs-requires c κs =
     let fit = start (c .before .before .before .before .before .before) .pre .tables-fit in
     (fit .arcs-fit, ((λ b h. omega (arith, fit .tail-below b h, fit .junctions-fit)), (refl, refl)))
 
+cast-intervals : tie.Need-cast-intervals Inv-loop μ-loop
+cast-intervals c =
+    let s = start (cleared (c .before .before .before .before)) in
+    omega (arith, c .interval-of .ensures, interval-at-most (now (s .args .fences)) (s .args .departure), s .pre .tables-fit .intervals-fit)
+
+array-write-intervals : tie.Need-array-write-intervals Inv-loop μ-loop
+array-write-intervals c = source-known (start (cleared (c .before .before .before .before)))
+
 loop-holds : tie.Need-loop-holds Inv-loop μ-loop
 loop-holds c =
-    let l = c .before .before .before in
+    let e = c .before in
+    let l = e .before .before .before in
     let clear = cleared l .clear .ensures in
     let s = start (cleared l) in
     let labels-are = ap (λ labels. set labels (s .args .source) (s .args .departure)) (clear .0 ∙ ap (λ n. replicate n never) (s .pre .labels-long)) in
     let predecessors-are = clear .1 ∙ ap (λ n. replicate n noArc) (s .pre .labels-long) in
-    let entered = c .enter .ensures (equal-keys never) (omega (arith, source-known s)) in
+    let entered = e .enter .ensures (equal-keys never) (omega (arith, source-known s)) in
     record {
       linked = l .link-arcs .ensures;
-      standing = stands-first (s .pre .source-below) (s .pre .in-time) labels-are predecessors-are (c .before .key-of .ensures) entered;
-      round = λ q. round-starts q labels-are predecessors-are;
+      standing = stands-first (s .pre .source-below) (s .pre .in-time) labels-are predecessors-are (e .before .key-of .ensures) entered;
+      round = λ q. round-starts q labels-are predecessors-are (c .interval-of .ensures) refl;
     }
 
 settle-requires : tie.Need-settle-requires Inv-loop μ-loop
@@ -155,6 +165,9 @@ label-all-spec =
     link-arcs-requires
     (λ c κs. search needs)
     (λ c κs. search needs)
+    (λ c κs. search needs)
+    cast-intervals
+    array-write-intervals
     loop-holds
     (λ c κs. search needs)
     (λ c κs. search needs)

@@ -2,6 +2,7 @@
 use borrow.Author.Needs.{needs}
 use mathlib.Core.Path.{sym, ap, _∙_}
 use native.Mathlib.Nat.{add-sub-cancel-left}
+use native.Mathlib.Omega.{arith}
 use denote.Ref.{now}
 use Rattle.model.specs.Ticks.{arrivedAt}
 use Rattle.settling.specs.code.Offering.{ArrivesOn, missed, offered}
@@ -13,12 +14,19 @@ start c = c .before .before .before .before .before .before .before .before
 
 driven : (c : tie.After-drive) → ArrivesOn (now (start c .args .fences)) (now (start c .args .lengths)) (now (start c .args .speeds)) (start c .args .a)
     (start c .args .tick) (start c .args .interval) (arrivedAt (c .drive .result))
-driven c = rw add-sub-cancel-left at (c .drive .ensures)
+driven c = rw add-sub-cancel-left at (c .drive .ensures .0)
+
+-- The arrival's interval is one of the plan's, which has few.
+cast-noted : tie.Need-cast-noted
+cast-noted c =
+    let told = c .before in
+    let d = told .before .before in
+    omega (arith, rw (told .arrival .given .1) at (d .drive .ensures .1), start d .pre .0 .few-intervals)
 
 returns : tie.Need-returns
 returns c =
     let offering = c .before .before .before .before in
-    let arrival = offering .before .before .before .before .before in
+    let arrival = offering .before .before .before .before .before .before in
     let told = arrival .arrival .given .1 in
     offered (λ kept. sym (ap arrivedAt told) ∙ driven (arrival .before .before) kept) (offering .offer .ensures)
 
@@ -38,6 +46,7 @@ offer-arc-spec =
     (λ c. search needs)
     (λ c κs. search needs)
     (λ c. search needs)
+    cast-noted
     (λ c κs. search needs)
     (λ c. search needs)
     (λ c. search needs)

@@ -13,11 +13,11 @@ use Rattle.settling.proofs.offer.offer_arcs.Statement.{statement}
 use Rattle.settling.proofs.offer.offer_arcs.Tie as tie
 
 abbrev Inv-loop : tie.InvT-loop
-Inv-loop first tick interval fences heads lengths speeds next settled labels₀ predecessors₀ tree₀ a₀ labels predecessors tree a =
-    Onward first fences heads lengths speeds next (tables labels₀ predecessors₀ tree₀) settled tick interval a (tables labels predecessors tree)
+Inv-loop first tick interval fences heads lengths speeds next settled labels₀ predecessors₀ intervals₀ tree₀ a₀ labels predecessors intervals tree a =
+    Onward first fences heads lengths speeds next (tables labels₀ predecessors₀ intervals₀ tree₀) settled tick interval a (tables labels predecessors intervals tree)
 
 abbrev μ-loop : tie.MeasureT-loop
-μ-loop first tick interval fences heads lengths speeds next settled labels₀ predecessors₀ tree₀ a₀ labels predecessors tree a = noArc - a
+μ-loop first tick interval fences heads lengths speeds next settled labels₀ predecessors₀ intervals₀ tree₀ a₀ labels predecessors intervals tree a = noArc - a
 
 abbrev start : tie.After-slice-known2 Inv-loop μ-loop → tie.Start Inv-loop μ-loop
 start c = c .before .before .before .before .before .before
@@ -33,7 +33,7 @@ few : (c : tie.In-loop Inv-loop μ-loop) → c .before .loop .a < 640
 few c = omega (arith, arc-at c, handed c .pre .few-arcs)
 
 abbrev offerable : (c : tie.In-loop Inv-loop μ-loop) →
-    Offerable (getD (now (handed c .args .heads)) (c .before .loop .a) 0 % 256) (tables (c .before .loop .labels) (c .before .loop .predecessors) (c .before .loop .tree))
+    Offerable (getD (now (handed c .args .heads)) (c .before .loop .a) 0 % 256) (tables (c .before .loop .labels) (c .before .loop .predecessors) (c .before .loop .intervals) (c .before .loop .tree))
 offerable c = onward-offerable (handed c .pre) (c .before .loop .inv) (c .loop-test .taken)
 
 loop-holds : tie.Need-loop-holds Inv-loop μ-loop
@@ -56,7 +56,7 @@ element-copy-out-if1 c = offerable (c .before) .is-junction
 
 offer-arc-requires : tie.Need-offer-arc-requires Inv-loop μ-loop
 offer-arc-requires c κs =
-    let i = c .before .before .before .before .before .before in
+    let i = c .before .before .before .before .before .before .before in
     (onward-arc (handed i .pre) (i .before .loop .inv) (i .loop-test .taken), offerable i)
 
 mul-a : tie.Need-mul-a Inv-loop μ-loop
@@ -75,8 +75,8 @@ loop-again c =
     let i = c .before .before .before .before in
     let some = i .loop-test .taken in
     ⊎-elim
-    (λ w. rw (w .9, w .10, w .11) (onward-offers (handed i .pre) (i .before .loop .inv) some (not-true _ (w .0 .taken)) (w .4 .ensures)))
-    (λ w. rw (w .1, w .2, w .3) (onward-skips (handed i .pre) (i .before .loop .inv) some (not-false _ (w .0 .left))))
+    (λ w. rw (w .10, w .11, w .12, w .13) (onward-offers (handed i .pre) (i .before .loop .inv) some (not-true _ (w .0 .taken)) (w .5 .ensures)))
+    (λ w. rw (w .1, w .2, w .3, w .4) (onward-skips (handed i .pre) (i .before .loop .inv) some (not-false _ (w .0 .left))))
     (c .before .if1 .came)
 
 same-length : tie.Need-same-length Inv-loop μ-loop
@@ -88,7 +88,7 @@ same-length-2 c = c .before .loop .inv .predecessors-long
 returns : tie.Need-returns Inv-loop μ-loop
 returns c =
     let left = c .before .loop in
-    left .inv .so-far (tables (left .labels) (left .predecessors) (left .tree)) (rw (c .loop-test .left) none-left)
+    left .inv .so-far (tables (left .labels) (left .predecessors) (left .intervals) (left .tree)) (rw (c .loop-test .left) none-left)
 
 pub offer-arcs-spec : {M : Type 1} → statement M
 offer-arcs-spec =

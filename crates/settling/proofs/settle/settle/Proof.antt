@@ -9,15 +9,12 @@ use Rattle.settling.proofs.settle.settle.Tie as tie
 abbrev start : tie.After-enter → tie.Start
 start c = c .before .before .before .before .before .before .before .before
 
-abbrev entered-at : tie.After-interval-of → tie.After-enter
-entered-at c = c .before .before
-
-abbrev found-at : tie.After-offer-arcs-arg5 → tie.After-interval-of
-found-at c = c .before .before .before .before .before
+abbrev entered-at : tie.After-offer-arcs-arg7 → tie.After-enter
+entered-at c = c .before .before .before .before .before .before .before .before
 
 offer-arcs-requires : tie.Need-offer-arcs-requires
 offer-arcs-requires c κs =
-    let e = entered-at (found-at c) in
+    let e = entered-at c in
     let pre = start e .pre in
     let out = e .enter .ensures (pre .drivable .tournament) (omega (arith, pre .has-label, pre .drivable .few-junctions)) in
     drivable-by (pre .drivable) (out .tournament)
@@ -25,12 +22,10 @@ offer-arcs-requires c κs =
 returns : tie.Need-returns
 returns c =
     let offering = c .before .before .before .before in
-    let f = found-at (offering .before) in
-    let e = entered-at f in
+    let e = entered-at (offering .before) in
     let pre = start e .pre in
     record {
       settled-is = refl;
-      interval-is = f .interval-of .ensures;
       tree = _;
       out = e .enter .ensures (pre .drivable .tournament) (omega (arith, pre .has-label, pre .drivable .few-junctions));
       offered = offering .offer-arcs .ensures;
@@ -44,7 +39,7 @@ settle-spec =
     (λ c κs. search needs)
     (λ c. search needs)
     (λ c. search needs)
-    (λ c κs. search needs)
+    (λ c. search needs)
     (λ c. search needs)
     (λ c. search needs)
     offer-arcs-requires

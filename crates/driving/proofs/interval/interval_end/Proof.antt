@@ -1,4 +1,4 @@
--- `drive::interval_end` is the next fence, or midnight where there is none.
+-- `interval::interval_end` is the next fence, or midnight where there is none.
 use borrow.Author.Needs.{needs}
 use Prim.Native.Nat.{_+_}
 use mathlib.Core.Path.{sym}
@@ -6,8 +6,8 @@ use lib.ListN.{List·getD-eq-default}
 use denote.Ref.{now}
 use Rattle.model.specs.Ticks.{day}
 use Rattle.model.proofs.Entries.{getD-inside}
-use Rattle.driving.proofs.drive.interval_end.Statement.{statement}
-use Rattle.driving.proofs.drive.interval_end.Tie as tie
+use Rattle.driving.proofs.interval.interval_end.Statement.{statement}
+use Rattle.driving.proofs.interval.interval_end.Tie as tie
 
 returns : tie.Need-returns
 returns c = getD-inside (now (c .before .before .args .fences)) (c .before .before .args .k + 1) 0 day (c .before .if1 .taken)

@@ -1,0 +1,47 @@
+-- `interval::contains` is `contains?`: each test is one of its three, in turn.
+use borrow.Author.Needs.{needs}
+use Prim.Native.Nat.{ℕ}
+use native.Mathlib.Omega.{arith}
+use native.Mathlib.Numerals.{add-one}
+use lib.ListN.{getD}
+use denote.Ref.{now}
+use borrow.Author.Tests.{lt-ltb, le-ltb, le-leb, lt-leb}
+use Rattle.driving.proofs.interval.contains.Statement.{statement}
+use Rattle.driving.proofs.interval.contains.Tie as tie
+
+abbrev start : tie.After-time-of-day → tie.Start
+start c = c .before .before .before
+
+abbrev fence : tie.After-time-of-day → ℕ
+fence c = getD (now (start c .args .fences)) (start c .args .interval) 0
+
+returns : tie.Need-returns
+returns c = rw (le-ltb _ _ (c .if1 .taken))
+
+returns-2 : tie.Need-returns-2
+returns-2 c =
+    let e = c .before .before in
+    rw (lt-ltb _ _ (e .before .if1 .left), ← e .time-of-day .ensures, lt-leb (fence e) (e .time-of-day .result) (omega (arith, c .if2 .taken)))
+
+returns-3 : tie.Need-returns-3
+returns-3 c =
+    let e = c .before .before .before in
+    rw (
+      lt-ltb _ _ (e .before .if1 .left),
+      ← e .time-of-day .ensures,
+      le-leb (fence e) (e .time-of-day .result) (omega (arith, c .before .if2 .left)),
+      c .interval-end .ensures,
+      add-one,
+    )
+
+pub contains-spec : {M : Type 1} → statement M
+contains-spec =
+    tie.close
+    (tie.spec
+    returns
+    (λ c κs. search needs)
+    (λ c. search needs)
+    (λ c. search needs)
+    returns-2
+    (λ c κs. omega (arith, c .before .before .before .if1 .left))
+    returns-3)

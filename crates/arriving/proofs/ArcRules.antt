@@ -18,8 +18,9 @@ use Rattle.model.specs.declared.tick.Arrival.the-variants.{At}
 use Rattle.model.specs.Flow.{spansOf, arrival}
 use Rattle.model.specs.Intervals.{speedAt, tickAndInterval?, contains?}
 use Rattle.model.specs.Rules.{AllKept, replied, firstBroken, countKeeps, fencesKeep, lengthKeeps}
-use Rattle.model.proofs.Containing.{interval-contains, test-contains, contains-test, told-at}
+use Rattle.model.proofs.Containing.{interval-contains, test-contains, contains-test}
 use Rattle.model.proofs.Rules.{kept-replies, replies-kept, kept-count, count-kept, kept-length, length-kept, kept-speeds, speeds-kept, fences-kept, kept-fences}
+use Rattle.model.proofs.WithInterval.{arrived-at}
 use Rattle.driving.specs.ArcKept.{ArcKept}
 use Rattle.driving.specs.InPlan.{InPlan}
 use Rattle.arriving.specs.ArcArrival.{arcRules, arcArrival, ArcAccepted, ArcRepliesWhenAccepted, ArcGivesInterval}
@@ -97,5 +98,5 @@ arc-replies-when-accepted departure interval metres fences speeds r = (
 pub arc-gives-interval : ArcGivesInterval
 arc-gives-interval departure interval metres fences speeds tick arrives-in e k =
     let (accepted, is-reply) = arc-replies-when-accepted departure interval metres fences speeds (some (tick, arrives-in)) .0 e in
-    let (at, interval-is, in-time) = told-at fences tick arrives-in (arrival (speedAt fences speeds) (spansOf metres) departure) is-reply in
+    let (at, interval-is, in-time) = arrived-at fences tick arrives-in (arrival (speedAt fences speeds) (spansOf metres) departure) is-reply in
     rw (interval-is, ← at) (interval-contains fences (accepted .fences-kept) (accepted .some-interval) k tick)

@@ -21,7 +21,7 @@ use Rattle.model.specs.Intervals.{timeOfDay, passed, intervalOf, intervalAfter,
 use Rattle.model.proofs.Entries.{getD-inside}
 use Rattle.model.proofs.Tests.{ltb-cases}
 use Rattle.model.proofs.Pieces.{ticks-within, arrival-over-piece, never-from-last}
-use Rattle.model.proofs.Passed.{passed-before}
+use Rattle.model.proofs.Passed.{passed-at-most}
 use Rattle.model.proofs.IntervalPieces.{some-passed, counted-at-fence, same-interval, interval-at-end, interval-is-piece}
 use Rattle.driving.specs.ArcKept.{ArcKept}
 
@@ -66,7 +66,7 @@ module _ {departure interval metres : ℕ} {fences speeds : List ℕ} where
 
   pub kept-inside : ArcKept departure interval metres fences speeds → interval < min (length fences) (length speeds)
   kept-inside kept =
-      omega (arith, in-interval-of kept, kept .as-many, passed-before fences (timeOfDay departure) (length fences) 0 (λ h. absurd (omega arith)))
+      omega (arith, in-interval-of kept, kept .as-many, passed-at-most fences (timeOfDay departure))
 
   -- From the last tick on nothing is covered.
   pub never-leaves : ArcKept departure interval metres fences speeds → last ≤ departure → never ≡ arrival (speedAt fences speeds) (spansOf metres) departure

@@ -1,22 +1,21 @@
 -- The interval of a tick is the one that contains it: a fence is counted exactly where the time of day has reached it, since fences rise.
-use Prim.Native.Nat.{ℕ, suc, _≤_, _<_}
-use mathlib.Core.Path.{_≡_, ap}
+use Prim.Native.Nat.{ℕ, suc, _<_}
+use mathlib.Core.Path.{_≡_}
 use mathlib.Core.Bool.{true}
 use mathlib.Core.List.{List}
 use mathlib.Core.Logic.{⊎-elim}
-use mathlib.Core.Option.{some}
 use native.Mathlib.Nat.{mod-lt}
 use native.Mathlib.Omega.{arith}
 use lib.Dec.{leb, ltb}
 use lib.ListN.{length, getD, List·getD-eq-default}
 use borrow.Author.Tests.{leb-true, ltb-true, le-leb, lt-ltb}
-use Rattle.model.specs.Ticks.{day, last}
-use Rattle.model.specs.Intervals.{FencesKept, timeOfDay, passed, intervalOf, tickAndInterval?, contains?, Contains, IntervalContains}
+use Rattle.model.specs.Ticks.{day}
+use Rattle.model.specs.Intervals.{FencesKept, timeOfDay, passed, intervalOf, contains?, Contains, IntervalContains}
 use Rattle.model.proofs.Entries.{getD-inside}
 use Rattle.model.proofs.IntervalPieces.{some-passed}
-use Rattle.model.proofs.Passed.{passed-before, counted-reached, reached-counted}
+use Rattle.model.proofs.Passed.{passed-before, passed-at-most, counted-reached, reached-counted}
 use Rattle.model.proofs.Rules.{both-true, true-three}
-use Rattle.model.proofs.Tests.{leb-cases, ltb-cases}
+use Rattle.model.proofs.Tests.{ltb-cases}
 
 module _ (fences : List ℕ) (kept : FencesKept fences) (some-fence : 0 < length fences) (k t : ℕ) where
   of-interval : k ≡ intervalOf fences t → Contains fences k t
@@ -24,7 +23,7 @@ module _ (fences : List ℕ) (kept : FencesKept fences) (some-fence : 0 < length
   of-interval same =
       let count : passed fences (timeOfDay t) ≡ suc k = omega (arith, some-passed fences (timeOfDay t) kept some-fence) in
       record {
-        is-interval = omega (arith, passed-before fences (timeOfDay t) (length fences) 0 (λ h. absurd (omega arith)));
+        is-interval = omega (arith, passed-at-most fences (timeOfDay t));
         from-fence = counted-reached fences k (timeOfDay t) (omega arith);
         before-next = λ next.
             ⊎-elim
@@ -68,12 +67,3 @@ module _ (fences : List ℕ) (k t : ℕ) where
       both-true
       (both-true (lt-ltb k (length fences) (c .is-interval)) (le-leb (getD fences k 0) (timeOfDay t) (c .from-fence)))
       (lt-ltb (timeOfDay t) (getD fences (suc k) day) before)
-
--- ---- What an arrival with its interval says
-
-pub told-at : (fences : List ℕ) (t k x : ℕ) → some (t, k) ≡ tickAndInterval? fences x → (t ≡ x) × (k ≡ intervalOf fences x) × (x ≤ last)
-told-at fences t k x e =
-    ⊎-elim
-    (λ w. let same : (t, k) ≡ (x, intervalOf fences x) = cc (rw (w .0) at e) in (ap (λ (p : ℕ × ℕ). p .0) same, ap (λ (p : ℕ × ℕ). p .1) same, w .1))
-    (λ w. let z : _≡_ {A = ℕ} 0 1 = cc (rw (w .0) at e) in absurd (omega arith))
-    (leb-cases x last)

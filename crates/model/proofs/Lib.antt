@@ -21,4 +21,5 @@ pub mod Rules
 pub mod Tests
 pub mod Trails
 pub mod Walks
+pub mod WithInterval
 pub mod Within

@@ -7,7 +7,7 @@ use native.Mathlib.Nat.{le-of-lt, le-of-suc-le-suc}
 use native.Mathlib.Omega.{arith}
 use lib.ListN.{length, getD}
 use borrow.Author.Tests.{le-leb, lt-leb}
-use Rattle.model.specs.Intervals.{timeOfDay, passed, intervalOf}
+use Rattle.model.specs.Intervals.{passed}
 use Rattle.model.proofs.Tests.{leb-cases}
 
 pub passed-monotone : (fences : List ℕ) (s t : ℕ) → s ≤ t → passed fences s ≤ passed fences t
@@ -30,10 +30,9 @@ passed-before (f ∷ fs) t (suc k) d before =
     (λ w. rw (w .0) zero-le)
     (leb-cases f t)
 
--- The number of a tick's interval is at most the number of fences, whatever they are.
-pub interval-at-most : (fences : List ℕ) (t : ℕ) → intervalOf fences t ≤ length fences
-unfolding intervalOf
-interval-at-most fences t = omega (arith, passed-before fences (timeOfDay t) (length fences) 0 (λ h. absurd (omega arith)))
+-- No more are counted than there are.
+pub passed-at-most : (fences : List ℕ) (t : ℕ) → passed fences t ≤ length fences
+passed-at-most fences t = passed-before fences t (length fences) 0 (λ h. absurd (omega arith))
 
 -- The first fence that is not counted, or what stands for it where there is none, is no earlier.
 pub next-no-earlier : (fences : List ℕ) (t d : ℕ) → t ≤ d → t ≤ getD fences (passed fences t) d

@@ -42,18 +42,30 @@ fn print_route(answer: Routed) {
     }
 }
 
-fn print_labels_of_5(
+fn print_each_label(earliest: &[u32], predecessors: &[u16]) {
+    let mut j = 0;
+    while j < earliest.len() {
+        if j < predecessors.len() {
+            print_label(earliest[j], predecessors[j]);
+        }
+        j += 1;
+    }
+}
+
+// The labels from the first junction, in buffers that the caller lends.
+fn print_labels(
+    junctions: u32,
     fences: &[u32],
     tails: &[u16],
     heads: &[u16],
     lengths: &[u32],
     speeds: &[u8],
     departure: u32,
+    earliest: &mut [u32],
+    predecessors: &mut [u16],
 ) {
-    let mut earliest = [0u32; 5];
-    let mut predecessors = [0u16; 5];
     match labels(
-        5,
+        junctions,
         fences,
         tails,
         heads,
@@ -61,16 +73,10 @@ fn print_labels_of_5(
         speeds,
         0,
         Tick { number: departure },
-        &mut earliest,
-        &mut predecessors,
+        earliest,
+        predecessors,
     ) {
-        Labelled::Written => {
-            print_label(earliest[0], predecessors[0]);
-            print_label(earliest[1], predecessors[1]);
-            print_label(earliest[2], predecessors[2]);
-            print_label(earliest[3], predecessors[3]);
-            print_label(earliest[4], predecessors[4]);
-        }
+        Labelled::Written => print_each_label(earliest, predecessors),
         Labelled::Refused(refusal) => print_refusal(refusal),
     }
 }
@@ -184,10 +190,22 @@ fn print_table_1(departure: u32) {
         40,
         40,
     ];
+    let mut earliest = [0u32; 5];
+    let mut predecessors = [0u16; 5];
     io::write_all(STDOUT_FILENO, b"Table 1 from ");
     io::print_decimal(STDOUT_FILENO, departure as u64);
     io::write_all(STDOUT_FILENO, b":");
-    print_labels_of_5(&fences, &tails, &heads, &lengths, &speeds, departure);
+    print_labels(
+        5,
+        &fences,
+        &tails,
+        &heads,
+        &lengths,
+        &speeds,
+        departure,
+        &mut earliest,
+        &mut predecessors,
+    );
     io::write_all(STDOUT_FILENO, b"; route:");
     print_route_of_5(&fences, &tails, &heads, &lengths, &speeds, departure);
     io::write_all(STDOUT_FILENO, b"\n");

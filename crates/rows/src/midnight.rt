@@ -1,11 +1,7 @@
 // Reckonings around midnight, by document 02, order 2: plans start again.
 use crate::arcs::print_drive;
-use crate::print_label;
-use crate::print_refusal;
-use labelling::labels::Labelled;
-use labelling::labels::labels;
+use crate::print_labels;
 use libc::STDOUT_FILENO;
-use model::tick::Tick;
 
 // A plan that moves one metre a day, in its last tick: left in that tick of either day, and at either midnight.
 fn print_last_tick(departure: u32, interval: u32) {
@@ -37,25 +33,17 @@ fn print_halves(morning: u8, evening: u8, departure: u32) {
     io::write_all(STDOUT_FILENO, b" and ");
     io::print_decimal(STDOUT_FILENO, evening as u64);
     io::write_all(STDOUT_FILENO, b":");
-    match labels(
+    print_labels(
         3,
         &fences,
         &tails,
         &heads,
         &lengths,
         &speeds,
-        0,
-        Tick { number: departure },
+        departure,
         &mut earliest,
         &mut predecessors,
-    ) {
-        Labelled::Written => {
-            print_label(earliest[0], predecessors[0]);
-            print_label(earliest[1], predecessors[1]);
-            print_label(earliest[2], predecessors[2]);
-        }
-        Labelled::Refused(refusal) => print_refusal(refusal),
-    }
+    );
     io::write_all(STDOUT_FILENO, b"\n");
 }
 

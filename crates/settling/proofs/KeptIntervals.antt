@@ -12,12 +12,7 @@ use Rattle.model.specs.Intervals.{intervalOf}
 use Rattle.model.proofs.Entries.{getD-all}
 use Rattle.model.proofs.Tests.{ltb-cases}
 use Rattle.settling.specs.code.Offering.{Tables, tables}
-use Rattle.settling.specs.code.Rounds.{IntervalsKept, IntervalKeptAtStart, IntervalsKeptByOffer}
-
--- What `IntervalsKept` says of the two tables.
-abbrev Beside : List ℕ → List ℕ → List ℕ → Type 0
-Beside fences labels intervals =
-    (j : ℕ) → j < length labels → getD labels j never < never → getD intervals j 0 ≡ intervalOf fences (getD labels j never)
+use Rattle.settling.specs.code.Rounds.{Beside, IntervalsKept, IntervalKeptAtStart, IntervalsKeptByOffer}
 
 -- A junction gets a label with its interval.
 lowers : (fences labels intervals : List ℕ) (head tick interval : ℕ) → head < length labels → head < length intervals → interval ≡ intervalOf fences tick →

@@ -4,22 +4,13 @@ use mathlib.Core.Path.{_≡_, refl, ap, _∙_}
 use mathlib.Core.Bool.{Bool, true, false, _&&_, cond}
 use mathlib.Core.List.{List}
 use mathlib.Core.Logic.{_⊎_, ⊎-elim}
-use mathlib.Core.Option.{none}
 use native.Mathlib.Omega.{arith}
 use lib.Dec.{ltb, eqb}
 use lib.ListN.{length, getD, set, length-set}
-use borrow.Author.Tests.{le-leb, lt-ltb, le-ltb, eq-eqb, ne-eqb}
-use Rattle.model.specs.Ticks.{last, never}
-use Rattle.model.specs.Intervals.{tickAndInterval?}
+use borrow.Author.Tests.{lt-ltb, le-ltb, eq-eqb, ne-eqb}
 use Rattle.model.proofs.Tests.{ltb-cases}
 use Rattle.tournament.specs.Tournament.{Tournament, Entered, keyOf}
 use Rattle.settling.specs.code.Offering.{Tables, tables, Leaves, ArcOffered, missed, offered}
-
--- ---- What the engine answers
-
-pub arrives-never : (fences : List ℕ) (x : ℕ) → (x ≤ last) ⊎ (x ≡ never) → none ≡ tickAndInterval? fences x → x ≡ never
-arrives-never fences x in-time e =
-    ⊎-elim (λ h. let z : _≡_ {A = ℕ} 0 1 = cc (rw (le-leb x last h) at e) in absurd (omega arith)) (λ same. same) in-time
 
 -- ---- What is left
 

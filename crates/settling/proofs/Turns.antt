@@ -16,7 +16,7 @@ use Rattle.model.specs.Intervals.{intervalOf, tickAndInterval?}
 use Rattle.model.specs.Network.{Network, Accepted, arcs, intervals, speedOn, driveOf, netOf, arcSpeeds}
 use Rattle.model.specs.Labels.{noArc, labelsOf, predecessorsOf}
 use Rattle.model.proofs.Arrival.{arrival-by-last}
-use Rattle.model.proofs.Containing.{told-at}
+use Rattle.model.proofs.WithInterval.{arrived-at, arrived-never}
 use Rattle.model.proofs.Entries.{getD-inside, getD-all}
 use Rattle.model.proofs.Networks.{accepted-sound}
 use Rattle.model.proofs.Tests.{ltb-cases, eqb-cases}
@@ -29,7 +29,6 @@ use Rattle.settling.specs.code.Rounds.{IntervalsKept}
 use Rattle.settling.proofs.KeptIntervals.{kept-first, kept-by, kept-offered}
 use Rattle.settling.proofs.Linking.{arc-from, arc-from-least}
 use Rattle.settling.proofs.Links.{arc-inside}
-use Rattle.settling.proofs.Offered.{arrives-never}
 use Rattle.settling.proofs.Queue.{Queued, Waits, Nearest, ByLast, none-waits}
 use Rattle.settling.proofs.Settling.{
   Settling,
@@ -118,7 +117,8 @@ arc-known N junction p inside same some =
     ⊎-elim (λ e. absurd (some (same ∙ e))) (λ f. rw same (f .0, f .1)) (arc-from (N .tails) junction p inside)
 
 -- Before its first arc, no arc of the junction has offered.
-before-first : (N : Network) (settled : List Bool) (junction : ℕ) {a : ℕ} → a ≡ arcFrom (N .tails) junction 0 → (b : ℕ) → HasOffered N (set settled junction true) junction a b → Done N settled b
+before-first : (N : Network) (settled : List Bool) (junction : ℕ) {a : ℕ} → a ≡ arcFrom (N .tails) junction 0 →
+    (b : ℕ) → HasOffered N (set settled junction true) junction a b → Done N settled b
 before-first N settled junction same b d =
     by-cases (ℕ-discrete (getD (N .tails) b 0) junction)
     (λ e. absurd (omega (arith, same, d .2 e, arc-from-least (N .tails) junction 0 b (omega arith) (d .0) e)))
@@ -268,7 +268,7 @@ module _ {N : Network} {source departure : ℕ} (q : Taken N source departure) w
 
     turn-misses : ArrivesOn (N .fences) (N .lengths) (N .speeds) a tick interval Option.none → Turn N source departure settled junction tick interval (getD next a 0) t
     turn-misses on = record {
-      settling = missed (q .accepted) (turn .settling) a (at .0) tail-settled tail-label more (arrives-never (N .fences) (driveOf N a tick) by-last (arrives-on on));
+      settling = missed (q .accepted) (turn .settling) a (at .0) tail-settled tail-label more (arrived-never (N .fences) (driveOf N a tick) by-last (arrives-on on));
       junction-settled = turn .junction-settled;
       tick-is = turn .tick-is;
       interval-is = turn .interval-is;
@@ -293,7 +293,7 @@ module _ {N : Network} {source departure : ℕ} (q : Taken N source departure) w
         head = getD (N .heads) a 0
 
         arrives : (arrival ≡ driveOf N a tick) × (arrives-in ≡ intervalOf (N .fences) (driveOf N a tick)) × (driveOf N a tick ≤ last)
-        arrives = told-at (N .fences) arrival arrives-in (driveOf N a tick) (arrives-on on)
+        arrives = arrived-at (N .fences) arrival arrives-in (driveOf N a tick) (arrives-on on)
 
         labels-are : u .labels ≡ lowered (t .labels) head (driveOf N a tick)
         labels-are = rw (arrives .0) at (leaves .labels-are)

@@ -79,7 +79,8 @@ loads-alike : (text text′ : List ℕ) (p : Progress) → firstFault text ≡ a
 unfolding loadAnswer tablesAfter
 loads-alike text text′ p a b same lent = (rw (a, b), rw (a, b, same))
 
-refused-text : (text : List ℕ) (number line : ℕ) → firstFault text ≡ refusedAt number line → (lent : Tables) → (loadAnswer text lent ≡ refusedAt number line) × (tablesAfter text lent ≡ lent)
+refused-text : (text : List ℕ) (number line : ℕ) → firstFault text ≡ refusedAt number line → (lent : Tables) →
+    (loadAnswer text lent ≡ refusedAt number line) × (tablesAfter text lent ≡ lent)
 unfolding loadAnswer tablesAfter
 refused-text text number line e lent = (rw e, rw e)
 

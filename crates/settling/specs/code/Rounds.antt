@@ -26,11 +26,15 @@ pub record Settles (junction : ℕ) (fences heads lengths speeds first next : Li
 
 -- ---- The intervals beside the labels
 
--- Document 02, order 3: "The engines pass it on when they leave the next junction." Beside each label that is reached stands its interval. The
--- labelling keeps this from round to round.
+-- Document 02, order 3: "The engines pass it on when they leave the next junction." Beside each label that is reached stands its interval.
+abbrev pub Beside : List ℕ → List ℕ → List ℕ → Type 0
+Beside fences labels intervals =
+    (j : ℕ) → j < length labels → getD labels j never < never → getD intervals j 0 ≡ intervalOf fences (getD labels j never)
+
+-- The labelling keeps this from round to round, in a table that has room for every junction.
 pub record IntervalsKept (fences : List ℕ) (t : Tables) : Type 0 where
   pub long : length (t .intervals) ≡ maxJunctions
-  pub interval-is : (j : ℕ) → j < length (t .labels) → getD (t .labels) j never < never → getD (t .intervals) j 0 ≡ intervalOf fences (getD (t .labels) j never)
+  pub interval-is : Beside fences (t .labels) (t .intervals)
 
 -- It holds at the start, where the source alone is reached, with the departure's interval.
 abbrev pub IntervalKeptAtStart : Type 0

@@ -7,10 +7,11 @@ use native.Mathlib.Omega.{arith}
 use lib.ListN.{length, set, replicate, length-replicate}
 use denote.Ref.{now}
 use Rattle.model.specs.Ticks.{never}
+use Rattle.model.specs.Intervals.{timeOfDay, intervalOf}
 use Rattle.model.specs.Labels.{noArc, labelsOf, predecessorsOf}
 use Rattle.model.specs.Network.{Network, network, netOf}
 use Rattle.checking.specs.Question.{Taken}
-use Rattle.model.proofs.Passed.{interval-at-most}
+use Rattle.model.proofs.Passed.{passed-at-most}
 use Rattle.tournament.proofs.Matches.{equal-keys}
 use Rattle.settling.specs.code.Offering.{tables}
 use Rattle.settling.proofs.Queue.{Waits, Nearest, ByLast, least-waits}
@@ -85,9 +86,11 @@ link-arcs-requires c κs =
     (fit .arcs-fit, ((λ b h. omega (arith, fit .tail-below b h, fit .junctions-fit)), (refl, refl)))
 
 cast-intervals : tie.Need-cast-intervals Inv-loop μ-loop
+unfolding intervalOf
 cast-intervals c =
     let s = start (cleared (c .before .before .before .before)) in
-    omega (arith, c .interval-of .ensures, interval-at-most (now (s .args .fences)) (s .args .departure), s .pre .tables-fit .intervals-fit)
+    let few = passed-at-most (now (s .args .fences)) (timeOfDay (s .args .departure)) in
+    omega (arith, c .interval-of .ensures, few, s .pre .tables-fit .intervals-fit)
 
 array-write-intervals : tie.Need-array-write-intervals Inv-loop μ-loop
 array-write-intervals c = source-known (start (cleared (c .before .before .before .before)))

@@ -1,38 +1,41 @@
--- The engine's turns, each over the piece from the current tick to its interval's end: on an arc that keeps the rules, the arrival from here
--- with the spans left is the whole's. A piece that covers them ends it, in its own interval or, at its end, in the next; any other hands it on
--- to the next, past midnight to the first of the next day. Midnight after the second day is the last tick.
+-- The engine's turns. On an arc that keeps the rules each starts a try. Either its interval covers what is left, and the arrival is in it or, at
+-- its end, in the next; or the next try starts at its end, past midnight in the first interval of the next day. Midnight after the second day is
+-- the last tick.
 use Prim.Native.Nat.{ℕ, suc, _+_, _-_, _*_, _/_, _%_, _≤_, _<_, min}
 use mathlib.Core.Path.{_≡_, sym, ap, _∙_}
 use mathlib.Core.Bool.{cond}
 use mathlib.Core.List.{List}
 use mathlib.Core.Logic.{⊎-elim}
 use mathlib.Core.Option.{some}
-use native.Mathlib.Nat.{add-zero, div-add-mod', mod-lt}
+use native.Mathlib.Nat.{add-zero}
 use native.Mathlib.Numerals.{add-one}
 use native.Mathlib.Omega.{arith}
 use mir.Syntax.{w32}
 use mir.Val.{Fits}
-use lib.Dec.{leb, ltb}
+use lib.Dec.{ltb}
 use lib.ListN.{length, getD, List·getD-eq-default}
-use borrow.Author.Tests.{le-leb, lt-leb, le-ltb, lt-ltb}
+use borrow.Author.Tests.{le-leb, le-ltb, lt-ltb}
 use Rattle.model.specs.Ticks.{day, last, never}
 use Rattle.model.specs.Flow.{spansOf, arrival, ticksFor, Piece}
 use Rattle.model.specs.Intervals.{timeOfDay, passed, intervalOf, intervalAfter, speedAt, tickAndInterval?}
 use Rattle.model.proofs.Entries.{getD-inside}
 use Rattle.model.proofs.Tests.{ltb-cases}
-use Rattle.model.proofs.Pieces.{ticks-within, arrival-over-piece, never-from-last}
+use Rattle.model.proofs.Pieces.{ticks-within, never-from-last}
 use Rattle.model.proofs.Passed.{passed-at-most}
-use Rattle.model.proofs.IntervalPieces.{some-passed, counted-at-fence, same-interval, interval-at-end, interval-is-piece}
+use Rattle.model.proofs.IntervalPieces.{counted-at-fence, same-interval, interval-at-end}
 use Rattle.driving.specs.ArcKept.{ArcKept}
+use Rattle.driving.specs.Tries.{endOf, coversFrom, Try, LeftOver}
+use Rattle.driving.proofs.Tries.{day-and-time, counted-at-tick, try-before-last, rest-is-piece, left-over, within-try, after-try}
 
 -- ---- The loop's state
 
--- Some spans are left at a time of day in interval k, and the arrival from there is the whole's.
-pub record Underway (fences speeds : List ℕ) (total midnight k time left : ℕ) : Type 0 where
+-- At the start of a try, at a time of day in interval k. The answer rests on the try; the length left over is what document 02, order 4, asks to be
+-- shown here.
+pub record AtTry (fences speeds : List ℕ) (metres departure midnight k time left : ℕ) : Type 0 where
   pub in-day : time < day
   pub in-interval : suc k ≡ passed fences time
-  pub some-left : 0 < left
-  pub as-whole : arrival (speedAt fences speeds) left (midnight + time) ≡ total
+  pub is-try : Try fences speeds metres departure (midnight + time) left
+  pub left-over : LeftOver (speedAt fences speeds) metres departure (midnight + time) left
 
 pub record Driving (departure interval metres : ℕ) (fences speeds : List ℕ) (midnight k time left : ℕ) : Type 0 where
   pub inside : k < min (length fences) (length speeds)
@@ -41,8 +44,7 @@ pub record Driving (departure interval metres : ℕ) (fences speeds : List ℕ) 
   pub before-last : midnight < last
   pub time-fits : time < 4294967296
   pub left-fits : left ≤ 154618822656
-  pub when-kept : ArcKept departure interval metres fences speeds →
-      Underway fences speeds (arrival (speedAt fences speeds) (spansOf metres) departure) midnight k time left
+  pub when-kept : ArcKept departure interval metres fences speeds → AtTry fences speeds metres departure midnight k time left
 
 -- The turns left: those of the day, and on the first day those of the second too.
 abbrev pub turnsLeft : ℕ → ℕ → ℕ → ℕ
@@ -60,9 +62,7 @@ day-less intervals midnight days k inside is-midnight more =
 module _ {departure interval metres : ℕ} {fences speeds : List ℕ} where
   -- the departure's interval is that of its time of day
   in-interval-of : ArcKept departure interval metres fences speeds → suc interval ≡ passed fences (timeOfDay departure)
-  unfolding intervalOf
-  in-interval-of kept =
-      omega (arith, kept .in-interval, some-passed fences (timeOfDay departure) (kept .fences-kept) (kept .some-interval))
+  in-interval-of kept = ap suc (kept .in-interval) ∙ counted-at-tick kept departure
 
   pub kept-inside : ArcKept departure interval metres fences speeds → interval < min (length fences) (length speeds)
   kept-inside kept =
@@ -74,12 +74,21 @@ module _ {departure interval metres : ℕ} {fences speeds : List ℕ} where
       let at-last : departure ≡ last = omega (arith, kept .in-time) in
       rw at-last (sym (never-from-last (speedAt fences speeds) (spansOf metres) (omega (arith, kept .some-length))))
 
+  -- A try of the loop has the length left over, as every try has.
+  at-try : ArcKept departure interval metres fences speeds → {midnight k time left : ℕ} → time < day → suc k ≡ passed fences time →
+      Try fences speeds metres departure (midnight + time) left → AtTry fences speeds metres departure midnight k time left
+  at-try kept {midnight} {k} {time} {left} in-day in-interval t = record {
+    in-day = in-day;
+    in-interval = in-interval;
+    is-try = t;
+    left-over = left-over kept t;
+  }
+
   pub driving-starts : interval < min (length fences) (length speeds) → departure < last → Fits w32 metres →
       {time midnight : ℕ} → time ≡ timeOfDay departure → midnight ≡ departure - time →
       Driving departure interval metres fences speeds midnight interval time (36 * metres)
   driving-starts inside early long {time} {midnight} time-is midnight-is =
-      let split = div-add-mod' departure day in
-      let in-day : timeOfDay departure < day = mod-lt departure (omega arith) in
+      let (split, in-day) = day-and-time departure in
       let whole : midnight + time ≡ departure = omega arith in
       record {
         inside = inside;
@@ -88,19 +97,14 @@ module _ {departure interval metres : ℕ} {fences speeds : List ℕ} where
         before-last = omega arith;
         time-fits = omega arith;
         left-fits = omega (arith, long);
-        when-kept = λ kept. record {
-          in-day = omega arith;
-          in-interval = rw time-is (in-interval-of kept);
-          some-left = omega (arith, kept .some-length);
-          as-whole = ap (arrival (speedAt fences speeds) (spansOf metres)) whole;
-        };
+        when-kept = λ kept. at-try kept (omega arith) (rw time-is (in-interval-of kept)) (rw whole (Try.first early));
       }
 
   -- A turn: interval k with its end, and the spans that it covers.
-  module _ {midnight k time left : ℕ} (d : Driving departure interval metres fences speeds midnight k time left) {end room : ℕ}
-      (end-is : end ≡ getD fences (k + 1) day) (room-is : room ≡ (end - time) * getD speeds k 0) where
+  module _ {midnight k time left : ℕ} (d : Driving departure interval metres fences speeds midnight k time left) {end covers : ℕ}
+      (end-is : end ≡ getD fences (k + 1) day) (covers-is : covers ≡ (end - time) * getD speeds k 0) where
     -- what the interval covers takes no longer than the interval
-    pub by-end : left ≤ room → ticksFor left (getD speeds k 0) ≤ end - time
+    pub by-end : left ≤ covers → ticksFor left (getD speeds k 0) ≤ end - time
     by-end h = ticks-within left (getD speeds k 0) (end - time) (omega arith)
 
     module _ (kept : ArcKept departure interval metres fences speeds) where
@@ -110,7 +114,7 @@ module _ {departure interval metres : ℕ} {fences speeds : List ℕ} where
       abbrev total : ℕ
       total = arrival v (spansOf metres) departure
 
-      abbrev here : Underway fences speeds total midnight k time left
+      abbrev here : AtTry fences speeds metres departure midnight k time left
       here = d .when-kept kept
 
       end-is-next : end ≡ getD fences (suc k) day
@@ -119,29 +123,41 @@ module _ {departure interval metres : ℕ} {fences speeds : List ℕ} where
       day-by-last : d .days * day + day ≤ last
       day-by-last = omega (arith, d .is-midnight, d .before-last)
 
-      piece : Piece v (midnight + time) (midnight + end) (getD speeds k 0)
-      piece =
-          rw (d .is-midnight, end-is-next)
-          (interval-is-piece fences (kept .fences-kept) time k (here .in-day) (here .in-interval) (d .days) day-by-last speeds)
+      -- the try's own tick has this time of day, interval, end and speed
+      time-here : timeOfDay (midnight + time) ≡ time
+      time-here =
+          let (split, below) = day-and-time (midnight + time) in
+          omega (arith, d .is-midnight, here .in-day)
 
-      covers : (midnight + end - (midnight + time)) * getD speeds k 0 ≡ room
-      covers = ap (λ n. n * getD speeds k 0) (omega arith) ∙ sym room-is
+      interval-here : intervalOf fences (midnight + time) ≡ k
+      interval-here = omega (arith, counted-at-tick kept (midnight + time), ap (passed fences) time-here, here .in-interval)
 
-      turn : cond (leb left room) (midnight + time + ticksFor left (getD speeds k 0)) (arrival v (left - room) (midnight + end)) ≡ total
-      turn =
-          rw (← covers) (sym (arrival-over-piece v (midnight + time) (midnight + end) (getD speeds k 0) left piece (here .some-left)) ∙ here .as-whole)
+      end-here : endOf fences (midnight + time) ≡ midnight + end
+      unfolding endOf
+      end-here = rw (interval-here, ← end-is-next) (omega (arith, time-here))
+
+      speed-here : v (midnight + time) ≡ getD speeds k 0
+      unfolding speedAt
+      speed-here = rw interval-here
+
+      covers-here : coversFrom fences speeds (midnight + time) ≡ covers
+      unfolding coversFrom
+      covers-here = rw (end-here, speed-here) (ap (λ n. n * getD speeds k 0) (omega arith) ∙ sym covers-is)
+
+      abbrev rest : Piece v (midnight + time) (endOf fences (midnight + time)) (v (midnight + time))
+      rest = rest-is-piece kept (midnight + time) (try-before-last (here .is-try))
 
       -- the spans left are covered in this interval, and the arrival is by its end
-      module _ (h : left ≤ room) {arrives tick : ℕ} (arrives-is : arrives ≡ time + ticksFor left (getD speeds k 0))
+      module _ (h : left ≤ covers) {arrives tick : ℕ} (arrives-is : arrives ≡ time + ticksFor left (getD speeds k 0))
           (tick-is : tick ≡ (midnight + arrives) % 4294967296) where
-        covered-here : midnight + arrives ≡ total
-        covered-here = omega (arith, rw (le-leb left room h) at turn)
+        arrives-here : midnight + arrives ≡ total
+        arrives-here = omega (arith, rw speed-here at (within-try kept (here .is-try) (rw covers-here h)))
 
         answers : {number : ℕ} → intervalOf fences (midnight + arrives) ≡ number → some (tick, number) ≡ tickAndInterval? fences total
         answers {number} in-interval =
-            let in-time : midnight + arrives ≤ last = omega (arith, by-end h, piece .forward, piece .in-time) in
+            let by-last : midnight + arrives ≤ last = omega (arith, by-end h, end-here, rest .forward, rest .in-time) in
             let same : tick ≡ midnight + arrives = omega arith in
-            rw (← covered-here, le-leb (midnight + arrives) last in-time, in-interval, same)
+            rw (← arrives-here, le-leb (midnight + arrives) last by-last, in-interval, same)
 
         pub arrives-within : arrives < end → some (tick, k) ≡ tickAndInterval? fences total
         arrives-within before =
@@ -152,64 +168,57 @@ module _ {departure interval metres : ℕ} {fences speeds : List ℕ} where
         pub arrives-at-end : end ≤ arrives → {next : ℕ} → next ≡ intervalAfter (min (length fences) (length speeds)) k →
             some (tick, next) ≡ tickAndInterval? fences total
         arrives-at-end late {next} next-is =
-            let at-end : midnight + arrives ≡ d .days * day + getD fences (suc k) day = omega (arith, d .is-midnight, end-is-next, by-end h, piece .forward) in
+            let at-end : midnight + arrives ≡ d .days * day + getD fences (suc k) day = omega (arith, d .is-midnight, end-is-next, by-end h, end-here, rest .forward) in
             let intervals : min (length fences) (length speeds) ≡ length fences = omega (arith, kept .as-many) in
             answers
             (rw (at-end, next-is, intervals)
             (interval-at-end fences (kept .fences-kept) time k (here .in-day) (here .in-interval) (d .days) day-by-last (kept .some-interval)))
 
-      later : room < left → arrival v (left - room) (midnight + end) ≡ total
-      later h = rw (lt-leb left room h) at turn
+      -- the next try
+      tries-next : covers < left → midnight + end < last → Try fences speeds metres departure (midnight + end) (left - covers)
+      tries-next h early = rw (← end-here, ← covers-here) (Try.next (here .is-try) (rw covers-here h) (rw end-here early))
 
-      underway : room < left → k + 1 < length fences → Underway fences speeds total midnight (k + 1) end (left - room)
-      underway h more =
+      tries-on : covers < left → k + 1 < length fences → AtTry fences speeds metres departure midnight (k + 1) end (left - covers)
+      tries-on h more =
           let at-fence : end ≡ getD fences (k + 1) 0 = end-is ∙ getD-inside fences (k + 1) day 0 more in
-          record {
-            in-day = omega (arith, kept .fences-kept .below-day (k + 1) more);
-            in-interval = rw at-fence (counted-at-fence fences (kept .fences-kept) (k + 1) more);
-            some-left = omega arith;
-            as-whole = later h;
-          }
+          let in-day : end < day = omega (arith, kept .fences-kept .below-day (k + 1) more) in
+          at-try kept in-day (rw at-fence (counted-at-fence fences (kept .fences-kept) (k + 1) more)) (tries-next h (omega (arith, day-by-last, d .is-midnight)))
 
       -- after the last interval
-      at-midnight : room < left → length fences ≤ k + 1 → arrival v (left - room) (midnight + day) ≡ total
-      at-midnight h done =
-          let ends : end ≡ day = end-is ∙ List·getD-eq-default fences day done in
-          rw ends at (later h)
+      ends-day : length fences ≤ k + 1 → end ≡ day
+      ends-day done = end-is ∙ List·getD-eq-default fences day done
 
-      pub never-arrives : room < left → length fences ≤ k + 1 → last ≤ midnight + day → never ≡ total
+      pub never-arrives : covers < left → length fences ≤ k + 1 → last ≤ midnight + day → never ≡ total
       never-arrives h done late =
-          let at-last : midnight + day ≡ last = omega (arith, d .is-midnight, d .before-last) in
-          sym (never-from-last v (left - room) (omega arith)) ∙ (rw at-last at (at-midnight h done))
+          let at-last : midnight + end ≡ last = omega (arith, ends-day done, d .is-midnight, d .before-last) in
+          sym (never-from-last v (left - covers) (omega arith)) ∙ (rw (covers-here, end-here, at-last) at (after-try kept (here .is-try) (rw covers-here h)))
 
-      next-day : room < left → length fences ≤ k + 1 → Underway fences speeds total (midnight + day) 0 0 (left - room)
-      next-day h done = record {
-        in-day = omega arith;
-        in-interval = rw (kept .fences-kept .first-is-0) at (counted-at-fence fences (kept .fences-kept) 0 (kept .some-interval));
-        some-left = omega arith;
-        as-whole = rw add-zero (at-midnight h done);
-      }
+      tries-next-day : covers < left → length fences ≤ k + 1 → midnight + day < last →
+          AtTry fences speeds metres departure (midnight + day) 0 0 (left - covers)
+      tries-next-day h done early =
+          at-try kept (omega arith) (rw (kept .fences-kept .first-is-0) at (counted-at-fence fences (kept .fences-kept) 0 (kept .some-interval)))
+          (rw (add-zero, ← ends-day done) (tries-next h (rw (ends-day done) early)))
 
-    pub drives-on : room < left → k + 1 < min (length fences) (length speeds) → Fits w32 end →
-        Driving departure interval metres fences speeds midnight (k + 1) end (left - room)
-    drives-on h more wide = record {
+    pub drives-on : covers < left → k + 1 < min (length fences) (length speeds) → Fits w32 end → {over : ℕ} → over ≡ left - covers →
+        Driving departure interval metres fences speeds midnight (k + 1) end over
+    drives-on h more wide {over} over-is = record {
       inside = more;
       days = d .days;
       is-midnight = d .is-midnight;
       before-last = d .before-last;
       time-fits = omega (arith, wide);
       left-fits = omega (arith, d .left-fits);
-      when-kept = λ kept. underway kept h (omega arith);
+      when-kept = λ kept. rw over-is (tries-on kept h (omega arith));
     }
 
-    pub drives-past-midnight : room < left → min (length fences) (length speeds) ≤ k + 1 → midnight + day < last →
-        Driving departure interval metres fences speeds (midnight + day) 0 0 (left - room)
-    drives-past-midnight h done early = record {
+    pub drives-past-midnight : covers < left → min (length fences) (length speeds) ≤ k + 1 → midnight + day < last → {over : ℕ} → over ≡ left - covers →
+        Driving departure interval metres fences speeds (midnight + day) 0 0 over
+    drives-past-midnight h done early {over} over-is = record {
       inside = omega (arith, d .inside);
       days = suc (d .days);
       is-midnight = omega (arith, d .is-midnight);
       before-last = early;
       time-fits = omega arith;
       left-fits = omega (arith, d .left-fits);
-      when-kept = λ kept. next-day kept h (omega (arith, kept .as-many));
+      when-kept = λ kept. rw over-is (tries-next-day kept h (omega (arith, kept .as-many)) early);
     }

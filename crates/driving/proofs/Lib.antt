@@ -1,2 +1,3 @@
 pub mod Driving
 pub mod FenceCount
+pub mod Tries

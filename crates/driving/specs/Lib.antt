@@ -1,2 +1,3 @@
 pub mod ArcKept
 pub mod InPlan
+pub mod Tries

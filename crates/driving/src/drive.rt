@@ -48,11 +48,20 @@ fn ticks_for(spans: u64, speed: u8) -> u64
     (spans + ((speed - 1) as u64)) / (speed as u64)
 }
 
-// The arrival of a vehicle that leaves at the departure, which lies in the interval. In turn each interval takes what it covers of the
-// spans left, and the first that covers them all gives the arrival. After the last interval of a day comes the first of the next, until
-// the midnight that is the last tick. An interval of speed 0 covers nothing: the vehicle stands until it ends. The ticks are rounded up
-// once, at the end of the arc, where the arrival's interval is known. Of an arc that breaks the rules nothing is said but that the call is
-// safe and ends, and that the interval is one of the plan's.
+// The arrival of a vehicle that leaves at the departure, which lies in the interval. The steps are those of document 004, section 3, in its
+// order. A turn of the loop is a line of its list: the first for the interval of departure, each further one for the next interval. The
+// paper's number 0 is the interval of departure; k is an interval's number in the plan.
+//
+//     first turn         second turn               here
+//     l                  l − l₀                    left, in spans
+//     s                  f₁                        midnight + time
+//     f₁                 f₂                        midnight + end
+//     v₀                 v₁                        speed, in spans a tick
+//     l₀ = v₀(f₁ − s)    l₁ − l₀ = v₁(f₂ − f₁)     covers
+//     T(s)               T(s)                      midnight + arrives
+//
+// At the start of each try what is left is above 0, and is 36 × length less all that was covered since the departure (`LeftOver`). Of an arc
+// that breaks the rules nothing is said but that the call is safe and ends, and that the interval is one of the plan's.
 pub fn drive(departure: u32, interval: usize, metres: u32, fences: &[u32], speeds: &[u8]) -> Arrival
     ensures { λ r. ⌜ (ArcKept departure interval metres (now (fences .entry)) (now (speeds .entry)) →
         arrivedAt r ≡ tickAndInterval? (now (fences .entry)) (arrival (speedAt (now (fences .entry)) (now (speeds .entry))) (spansOf metres) departure)) ⌝ }
@@ -62,19 +71,24 @@ pub fn drive(departure: u32, interval: usize, metres: u32, fences: &[u32], speed
     if intervals <= interval {
         return Arrival::Never;
     }
-    // From the last tick on nothing is covered.
+    // At the last tick nothing more is covered: no try starts there.
     if Tick::LAST <= departure {
         return Arrival::Never;
     }
+    // "Assuming that f₀ ≤ s ≤ f₁": the interval of departure is given. A tick on a fence is in the interval that starts there, so that s < f₁.
     let mut k = interval;
     let mut time = time_of_day(departure);
     let mut midnight = departure - time;
     let mut left = SPANS_PER_METRE * (metres as u64);
     loop {
+        // The try within the interval, first that of departure: T(s) = l/v₀ + s, if l/v₀ < f₁ − s.
+        // In whole ticks the quotient is rounded up. Where l/v₀ is f₁ − s exactly, the paper's next line gives the same tick f₁, with nothing left
+        // over; here that is within. The condition is asked as l ≤ v₀(f₁ − s): at a speed of 0 the interval covers nothing, and the vehicle
+        // stands until f₁.
         let speed = speeds[k];
         let end = interval_end(fences, k);
-        let room = covered_until(end, time, speed);
-        if left <= room {
+        let covers = covered_until(end, time, speed);
+        if left <= covers {
             let arrives = time + ticks_for(left, speed) as u32;
             break Arrival::At {
                 // By the last tick, where the arc keeps the rules: the sum wraps on no such arc.
@@ -89,12 +103,15 @@ pub fn drive(departure: u32, interval: usize, metres: u32, fences: &[u32], speed
                 },
             };
         }
-        left -= room;
+        // The length left over: l − l₀. Next the paper takes l₁ = l₀ + v₁(f₂ − f₁) off the whole length; here each part comes off what is left.
+        left -= covers;
+        // The try in the next interval, which is the next turn: T(s) = (l − l₀)/v₁ + f₁, if (l − l₀)/v₁ < f₂ − f₁.
         time = end;
         k += 1;
         if k == intervals {
-            // The plan starts again.
+            // The day repeats: after its last interval comes the first of the next day, whose fences count from its own midnight.
             midnight += Tick::DAY;
+            // The last tick ends the list.
             if Tick::LAST <= midnight {
                 break Arrival::Never;
             }

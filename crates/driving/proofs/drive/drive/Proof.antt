@@ -1,5 +1,5 @@
--- `drive::drive` gives the arrival with its interval on an arc that keeps the rules: at each turn the arrival from there, with the spans left,
--- is the whole's (`Driving`). On any arc the interval is one that the loop has come to, or the one after it.
+-- `drive::drive` gives the arrival with its interval on an arc that keeps the rules: each turn starts a try with the length left over (`Driving`),
+-- from which the arrival is the whole's. On any arc the interval is one that the loop has come to, or the one after it.
 use borrow.Author.Needs.{needs}
 use Prim.Native.Nat.{_-_, _≤_}
 use mathlib.Core.Path.{refl, ap}
@@ -73,7 +73,8 @@ within : (c : tie.After-ticks-for Inv-loop μ-loop) →
 within c =
     let covering = c .before .before in
     rw (c .ticks-for .ensures)
-    (by-end (at-loop covering .loop .inv) (covering .before .interval-end .ensures) (covering .covered-until .ensures) (c .before .if3 .taken))
+    (by-end (at-loop covering .loop .inv) (covering .before .interval-end .ensures) (covering .covered-until .ensures)
+    (omega (arith, c .before .if3 .taken)))
 
 cast-arrives : tie.Need-cast-arrives Inv-loop μ-loop
 cast-arrives c = omega (arith, within c, c .before .before .before .interval-end .ok)
@@ -113,7 +114,7 @@ loop-again c =
     let l = at-loop covering in
     drives-past-midnight (l .loop .inv) (covering .before .interval-end .ensures) (covering .covered-until .ensures) (c .before .before .if3 .left)
     (omega (arith, counted l .intervals-of .ensures, c .before .if5 .taken))
-    (omega (arith, c .if6 .left))
+    (omega (arith, c .if6 .left)) (omega arith)
 
 -- the next interval of the day
 loop-less-2 : tie.Need-loop-less-2 Inv-loop μ-loop
@@ -127,7 +128,7 @@ loop-again-2 c =
     let l = at-loop covering in
     drives-on (l .loop .inv) (covering .before .interval-end .ensures) (covering .covered-until .ensures) (c .before .if3 .left)
     (omega (arith, l .loop .inv .inside, counted l .intervals-of .ensures, c .if5 .left))
-    (record { fits = covering .before .interval-end .ok })
+    (record { fits = covering .before .interval-end .ok }) (omega arith)
 
 returns-3 : tie.Need-returns-3 Inv-loop μ-loop
 returns-3 c =

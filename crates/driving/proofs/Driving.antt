@@ -22,7 +22,7 @@ use Rattle.model.proofs.Entries.{getD-inside}
 use Rattle.model.proofs.Tests.{ltb-cases}
 use Rattle.model.proofs.Pieces.{ticks-within, never-from-last}
 use Rattle.model.proofs.Passed.{passed-at-most}
-use Rattle.model.proofs.IntervalPieces.{counted-at-fence, same-interval, interval-at-end}
+use Rattle.model.proofs.IntervalPieces.{counted-at-fence, time-on, same-interval, interval-at-end}
 use Rattle.driving.specs.ArcKept.{ArcKept}
 use Rattle.driving.specs.Tries.{endOf, coversFrom, Try, LeftOver}
 use Rattle.driving.proofs.Tries.{day-and-time, counted-at-tick, try-before-last, rest-is-piece, left-over, within-try, after-try}
@@ -125,9 +125,7 @@ module _ {departure interval metres : ℕ} {fences speeds : List ℕ} where
 
       -- the try's own tick has this time of day, interval, end and speed
       time-here : timeOfDay (midnight + time) ≡ time
-      time-here =
-          let (split, below) = day-and-time (midnight + time) in
-          omega (arith, d .is-midnight, here .in-day)
+      time-here = rw (d .is-midnight) (time-on (d .days) time (here .in-day))
 
       interval-here : intervalOf fences (midnight + time) ≡ k
       interval-here = omega (arith, counted-at-tick kept (midnight + time), ap (passed fences) time-here, here .in-interval)

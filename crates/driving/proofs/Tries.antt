@@ -12,11 +12,11 @@ use borrow.Author.Tests.{le-leb, lt-leb}
 use Rattle.model.specs.Ticks.{day, last}
 use Rattle.model.specs.Flow.{spansOf, covered, arrival, ticksFor, Piece}
 use Rattle.model.specs.Intervals.{timeOfDay, passed, intervalOf, speedAt}
-use Rattle.model.proofs.Covered.{covered-add, covered-steady}
-use Rattle.model.proofs.Pieces.{arrival-over-piece}
+use Rattle.model.proofs.Covered.{covered-add}
+use Rattle.model.proofs.Pieces.{covered-over-piece, arrival-over-piece}
 use Rattle.model.proofs.IntervalPieces.{some-passed, interval-is-piece}
 use Rattle.driving.specs.ArcKept.{ArcKept}
-use Rattle.driving.specs.Tries.{endOf, coversFrom, Try, LeftOver, LeftOverAtEachTry, ArrivalFromEachTry, ArrivalWithinTry}
+use Rattle.driving.specs.Tries.{endOf, coversFrom, Try, LeftOver, LeftOverAtEachTry, ArrivalWithinTry}
 
 -- A tick as its day and its time of day.
 pub day-and-time : (t : ℕ) → (t / day * day + timeOfDay t ≡ t) × (timeOfDay t < day)
@@ -48,9 +48,7 @@ module _ {departure interval metres : ℕ} {fences speeds : List ℕ} (kept : Ar
   -- what the interval covers is the model's sum
   rest-covers : (t : ℕ) → t < last → covered v t (endOf fences t - t) ≡ coversFrom fences speeds t
   unfolding coversFrom
-  rest-covers t before =
-      let piece = rest-is-piece t before in
-      covered-steady v t (endOf fences t - t) (v t) (λ i l. piece .steady (t + i) (omega arith) (omega (arith, piece .forward)))
+  rest-covers t before = covered-over-piece (rest-is-piece t before) (endOf fences t - t) (le-refl (endOf fences t - t))
 
   at-first : LeftOver v metres departure departure (spansOf metres)
   at-first = record {
@@ -87,6 +85,7 @@ module _ {departure interval metres : ℕ} {fences speeds : List ℕ} (kept : Ar
       arrival v left at ≡ arrival v (left - coversFrom fences speeds at) (endOf fences at)
   past-rest {at} {left} t short = rw (lt-leb left (coversFrom fences speeds at) short) at (over-rest t)
 
+  -- From each try the arrival is the whole's.
   from-try : {at left : ℕ} → Try fences speeds metres departure at left → arrival v left at ≡ arrival v (spansOf metres) departure
   from-try (Try.first early) = refl
   from-try (Try.next t short early) = sym (past-rest t short) ∙ from-try t
@@ -101,9 +100,6 @@ module _ {departure interval metres : ℕ} {fences speeds : List ℕ} (kept : Ar
 
 pub left-over-at-each-try : LeftOverAtEachTry
 left-over-at-each-try departure interval metres fences speeds kept at left = left-over kept
-
-pub arrival-from-each-try : ArrivalFromEachTry
-arrival-from-each-try departure interval metres fences speeds kept at left = from-try kept
 
 pub arrival-within-try : ArrivalWithinTry
 arrival-within-try departure interval metres fences speeds kept at left = within-try kept

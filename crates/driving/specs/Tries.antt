@@ -38,12 +38,6 @@ abbrev pub LeftOverAtEachTry : Type 0
 LeftOverAtEachTry = (departure interval metres : ℕ) (fences speeds : List ℕ) → ArcKept departure interval metres fences speeds →
     (at left : ℕ) → Try fences speeds metres departure at left → LeftOver (speedAt fences speeds) metres departure at left
 
--- With the length left over, the arrival from a try's start is that on the whole arc.
-abbrev pub ArrivalFromEachTry : Type 0
-ArrivalFromEachTry = (departure interval metres : ℕ) (fences speeds : List ℕ) → ArcKept departure interval metres fences speeds →
-    (at left : ℕ) → Try fences speeds metres departure at left →
-    arrival (speedAt fences speeds) left at ≡ arrival (speedAt fences speeds) (spansOf metres) departure
-
 -- The paper's lines: "T(s) = l/v₀ + s, if l/v₀ < f₁ − s, else T(s) = (l − l₀)/v₁ + f₁", and so on. Where the interval covers what is left, the
 -- arrival on the whole arc is the try's start and the quotient, rounded up.
 abbrev pub ArrivalWithinTry : Type 0

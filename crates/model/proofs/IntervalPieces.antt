@@ -26,7 +26,7 @@ counted-at-fence fences kept k inside =
     (passed-before fences (getD fences k 0) (suc k) 0 (kept .rising k))
 
 -- The time of day of a tick that is given by its day and its time of day.
-time-on : (d time : ℕ) → time < day → timeOfDay (d * day + time) ≡ time
+pub time-on : (d time : ℕ) → time < day → timeOfDay (d * day + time) ≡ time
 time-on d time in-day = mul-add-mod-self-right d day time ∙ mod-eq-of-lt in-day
 
 -- A time of day in interval k, which ends at the next fence, or at midnight where there is none.

@@ -28,29 +28,31 @@ ticks-within spans speed n enough =
 
 -- ---- One piece
 
-module _ (v : ℕ → ℕ) (at end speed left : ℕ) (piece : Piece v at end speed) where
-  at-steady : (n : ℕ) → n ≤ end - at → covered v at n ≡ n * speed
-  at-steady n h = covered-steady v at n speed (λ i l. piece .steady (at + i) (omega arith) (omega (arith, piece .forward)))
+-- Until its end it covers a product.
+pub covered-over-piece : {v : ℕ → ℕ} {at end speed : ℕ} → Piece v at end speed → (n : ℕ) → n ≤ end - at → covered v at n ≡ n * speed
+covered-over-piece {v} {at} {end} {speed} piece n h =
+    covered-steady v at n speed (λ i l. piece .steady (at + i) (omega arith) (omega (arith, piece .forward)))
 
+module _ (v : ℕ → ℕ) (at end speed left : ℕ) (piece : Piece v at end speed) where
   stop : 0 < left → left ≤ (end - at) * speed → IsArrival v left at (at + ticksFor left speed)
   stop some enough =
       let moving : 0 < speed = ⊎-elim (λ z. absurd (omega (arith, mul-zero (end - at), ap (λ (n : ℕ). (end - at) * n) z))) (λ p. p) (eq-zero-or-pos speed) in
       let here : ticksFor left speed ≤ end - at = ticks-within left speed (end - at) enough in
       IsArrival.attained (ticksFor left speed) (omega (arith, piece .forward, piece .in-time))
-      (omega (arith, at-steady (ticksFor left speed) here, ticks-enough left speed moving))
-      (λ m h. omega (arith, at-steady m (omega arith), ticks-least left speed m moving h))
+      (omega (arith, covered-over-piece piece (ticksFor left speed) here, ticks-enough left speed moving))
+      (λ m h. omega (arith, covered-over-piece piece m (omega arith), ticks-least left speed m moving h))
 
   from-end : (n : ℕ) → covered v at (end - at + n) ≡ (end - at) * speed + covered v end n
   from-end n =
       let same : at + (end - at) ≡ end = omega (arith, piece .forward) in
-      omega (arith, covered-add v at (end - at) n, at-steady (end - at) (omega arith), ap (λ (t : ℕ). covered v t n) same)
+      omega (arith, covered-add v at (end - at) n, covered-over-piece piece (end - at) (omega arith), ap (λ (t : ℕ). covered v t n) same)
 
   -- before the end too little is covered, and after it what is left counts
   still-short : (m : ℕ) → (end - at) * speed < left → (end - at ≤ m → covered v end (m - (end - at)) < left - (end - at) * speed) → covered v at m < left
   still-short m short later =
       ⊎-elim
       (λ w. let split : m ≡ end - at + (m - (end - at)) = omega arith in omega (arith, later (w .1), from-end (m - (end - at)), ap (covered v at) split))
-      (λ w. omega (arith, covered-more v at m (end - at) (omega arith), at-steady (end - at) (omega arith)))
+      (λ w. omega (arith, covered-more v at m (end - at) (omega arith), covered-over-piece piece (end - at) (omega arith)))
       (leb-cases (end - at) m)
 
   skip : {t : ℕ} → (end - at) * speed < left → IsArrival v (left - (end - at) * speed) end t → IsArrival v left at t

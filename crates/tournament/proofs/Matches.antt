@@ -80,9 +80,9 @@ played-stays : (tree : List ℕ) (i v k : ℕ) → (k ≡ i → ⊥) → (2 * k 
 played-stays tree i v k not-winner not-even not-odd played =
     rw (getD-set-other tree i k v 0 not-winner, getD-set-other tree i (2 * k) v 0 not-even, getD-set-other tree i (2 * k + 1) v 0 not-odd) played
 
-pub entering-goes-on : {start tree : List ℕ} {i winner won opponent : ℕ} → Entering start tree i winner → 1 < i → opponent ≡ 4 * (i / 2) + 1 - i →
-    won ≡ min (getD tree opponent 0) winner → Entering start (set tree (i / 2) won) (i / 2) won
-entering-goes-on {tree} {i} {winner} {won} {opponent} e below meets wins = record {
+entering-goes-on : {start tree : List ℕ} {i winner won : ℕ} → Entering start tree i winner → 1 < i → won ≡ min (getD tree (4 * (i / 2) + 1 - i) 0) winner →
+    Entering start (set tree (i / 2) won) (i / 2) won
+entering-goes-on {tree} {i} {winner} {won} e below wins = record {
   some = omega arith;
   within = omega (arith, e .within);
   long = length-set tree (i / 2) won ∙ e .long;
@@ -102,8 +102,8 @@ entering-goes-on {tree} {i} {winner} {won} {opponent} e below meets wins = recor
     wins-match : won ≡ min (getD tree (2 * (i / 2)) 0) (getD tree (2 * (i / 2) + 1) 0)
     wins-match =
         ⊎-elim
-        (λ even. omega (arith, wins, key even ∙ e .holds, key {k = 2 * (i / 2) + 1} {m = opponent} (omega arith)))
-        (λ odd. omega (arith, wins, key odd ∙ e .holds, key {k = 2 * (i / 2)} {m = opponent} (omega arith)))
+        (λ even. omega (arith, wins, key even ∙ e .holds, key {k = 2 * (i / 2) + 1} {m = 4 * (i / 2) + 1 - i} (omega arith)))
+        (λ odd. omega (arith, wins, key odd ∙ e .holds, key {k = 2 * (i / 2)} {m = 4 * (i / 2) + 1 - i} (omega arith)))
         (halves i)
       where
         key : {k m : ℕ} → k ≡ m → getD tree k 0 ≡ getD tree m 0
@@ -116,6 +116,11 @@ entering-goes-on {tree} {i} {winner} {won} {opponent} e below meets wins = recor
           getD-set-other tree (i / 2) (2 * (i / 2) + 1) won 0 (λ f. omega arith),
         )
         (written ∙ wins-match)
+
+-- So it does whatever the next node is called.
+pub entering-plays : {start tree tree′ : List ℕ} {i winner won : ℕ} (next : ℕ) → Entering start tree i winner → 1 < i → next ≡ i / 2 →
+    (won ≡ min (getD tree (4 * (i / 2) + 1 - i) 0) winner) × (tree′ ≡ set tree (i / 2) won) → Entering start tree′ next won
+entering-plays next e below is-next plays = rw (is-next, plays .1) (entering-goes-on e below (plays .0))
 
 module _ {before : List ℕ} (t : Tournament before) (junction key : ℕ) (inside : junction < 256) where
   pub entering-starts : Entering (set before (256 + junction) key) (set before (256 + junction) key) (256 + junction) key

@@ -2,6 +2,7 @@
 // plays a match that the lesser of the two keys below it wins: the root holds the least key of all.
 ghost use mathlib.Core.Path.{_≡_};
 ghost use Prim.Native.Nat.{_+_, _-_, _*_, _/_, _<_, min};
+ghost use lib.ListN.{getD, set};
 ghost use Rattle.tournament.specs.Tournament.{leaves, Tournament, Entered, Least, keyOf, junctionOf};
 
 // The least power of two that is no less than the number of junctions, so that all leaves lie equally deep.
@@ -50,16 +51,30 @@ fn opponent(i: usize) -> usize
     i ^ 1
 }
 
-// Sets a junction's key, and plays the eight matches between its leaf and the root again, each by the winner of the one before.
+// Plays the winner so far, which stands at the node, against its opponent, and answers who wins.
+fn play(tree: &mut [u32; NODES], node: usize, winner: u32) -> u32
+    requires { ⌜ (1 < node) × (node < 2 * leaves) ⌝ }
+    ensures won { λ r. ⌜ r ≡ min (getD (now (tree .entry)) (4 * (node / 2) + 1 - node) 0) winner ⌝ }
+    ensures tree { λ r. ⌜ now (tree .exit) ≡ set (now (tree .entry)) (node / 2) r ⌝ }
+{
+    let won = lesser(tree[opponent(node)], winner);
+    tree[node / 2] = won;
+    won
+}
+
+// Sets a junction's key, and plays the eight matches between its leaf and the root again, each by the winner of the one before. They are
+// written out: a loop's counter and its test would be a third of each match.
 pub fn enter(tree: &mut [u32; NODES], junction: usize, key: u32)
     ensures { λ _. ⌜ (Tournament (now (tree .entry)) → junction < leaves → Entered (now (tree .entry)) junction key (now (tree .exit))) ⌝ }
 {
-    let mut i = LEAVES + junction % LEAVES;
-    let mut winner = key;
-    tree[i] = winner;
-    while ROOT < i {
-        winner = lesser(tree[opponent(i)], winner);
-        i /= 2;
-        tree[i] = winner;
-    }
+    let leaf = LEAVES + junction % LEAVES;
+    tree[leaf] = key;
+    let first = play(tree, leaf, key);
+    let second = play(tree, leaf / 2, first);
+    let third = play(tree, leaf / 4, second);
+    let fourth = play(tree, leaf / 8, third);
+    let fifth = play(tree, leaf / 16, fourth);
+    let sixth = play(tree, leaf / 32, fifth);
+    let seventh = play(tree, leaf / 64, sixth);
+    play(tree, leaf / 128, seventh);
 }

@@ -1,48 +1,47 @@
--- `tree::enter` keeps `Entering`: only the match above the node that was written last is not played, and above the root there is none.
-use borrow.Author.Needs.{needs}
-use Prim.Native.Nat.{_%_, _≤_, _<_}
+-- `tree::enter`: from the leaf up each match leaves only that above its node unplayed (`Entering`), and above the root there is none.
+use Prim.Native.Nat.{_+_, _/_, _%_}
 use mathlib.Core.Path.{_≡_}
 use native.Mathlib.Omega.{arith}
-use Rattle.tournament.proofs.Matches.{Entering, entering-starts, entering-goes-on, entering-ends}
+use Rattle.tournament.proofs.Matches.{entering-starts, entering-plays, entering-ends}
 use Rattle.tournament.proofs.tree.enter.Statement.{statement}
 use Rattle.tournament.proofs.tree.enter.Tie as tie
 
-abbrev Inv-loop : tie.InvT-loop
-Inv-loop tree₀ junction key i₀ winner₀ tree i winner = (1 ≤ i) × (i < 512) × (Entering tree₀ tree₀ i₀ winner₀ → Entering tree₀ tree i winner)
-
-abbrev μ-loop : tie.MeasureT-loop
-μ-loop tree₀ junction key i₀ winner₀ tree i winner = i
-
-loop-holds : tie.Need-loop-holds Inv-loop μ-loop
-loop-holds c = (omega arith, omega arith, λ e. e)
-
-loop-again : tie.Need-loop-again Inv-loop μ-loop
-loop-again c =
-    let (some, within, so-far) = c .before .before .before .before .loop .inv in
-    (omega arith, omega arith, λ e. entering-goes-on (so-far e) (omega arith) (c .before .before .opponent .ensures) (c .lesser .ensures))
-
-returns : tie.Need-returns Inv-loop μ-loop
+returns : tie.Need-returns
 returns c t inside =
-    let same : c .before .before .args .junction % 256 ≡ c .before .before .args .junction = omega arith in
-    let (some, within, so-far) = c .before .loop .inv in
-    rw same at (entering-ends t _ _ (omega arith) (so-far (entering-starts t _ _ (omega arith))) (omega arith))
+    let seventh = c .before .before in
+    let sixth = seventh .before .before in
+    let fifth = sixth .before .before in
+    let fourth = fifth .before .before in
+    let third = fourth .before .before in
+    let second = third .before .before in
+    let first = second .before .before in
+    let args = first .before .before .args in
+    let leaf = 256 + args .junction % 256 in
+    let same : args .junction % 256 ≡ args .junction = omega arith in
+    let e₀ = entering-starts t (args .junction % 256) (args .key) (omega arith) in
+    let e₁ = entering-plays (leaf / 2) e₀ (omega arith) (omega arith) (first .play .ensures) in
+    let e₂ = entering-plays (leaf / 4) e₁ (omega arith) (omega arith) (second .play2 .ensures) in
+    let e₃ = entering-plays (leaf / 8) e₂ (omega arith) (omega arith) (third .play3 .ensures) in
+    let e₄ = entering-plays (leaf / 16) e₃ (omega arith) (omega arith) (fourth .play4 .ensures) in
+    let e₅ = entering-plays (leaf / 32) e₄ (omega arith) (omega arith) (fifth .play5 .ensures) in
+    let e₆ = entering-plays (leaf / 64) e₅ (omega arith) (omega arith) (sixth .play6 .ensures) in
+    let e₇ = entering-plays (leaf / 128) e₆ (omega arith) (omega arith) (seventh .play7 .ensures) in
+    let e₈ = entering-plays (leaf / 256) e₇ (omega arith) (omega arith) (c .play8 .ensures) in
+    rw same at (entering-ends t (args .junction % 256) (args .key) (omega arith) e₈ (omega arith))
 
 pub enter-spec : {M : Type 1} → statement M
 enter-spec =
     tie.close
     (tie.spec
-    Inv-loop
-    μ-loop
     (λ c. omega arith)
     (λ c. omega arith)
     (λ c. omega arith)
-    loop-holds
-    (λ c κs. omega arith)
-    (λ c. omega arith)
-    (λ c. omega arith)
-    (λ c κs. search needs)
-    (λ c. omega arith)
-    (λ c. omega arith)
-    (λ c. omega arith)
-    loop-again
+    (λ c κs. (omega arith, omega arith))
+    (λ c κs. (omega arith, omega arith))
+    (λ c κs. (omega arith, omega arith))
+    (λ c κs. (omega arith, omega arith))
+    (λ c κs. (omega arith, omega arith))
+    (λ c κs. (omega arith, omega arith))
+    (λ c κs. (omega arith, omega arith))
+    (λ c κs. (omega arith, omega arith))
     returns)

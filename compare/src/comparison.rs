@@ -27,7 +27,7 @@ pub struct Check {
     pub refuses: &'static [RangeInclusive<u32>],
 }
 
-pub const CHECKS: [&Check; 23] = [
+pub const CHECKS: [&Check; 26] = [
     &cases::NETWORK_CHECK,
     &cases::ARC_ARRIVAL,
     &cases::LABELS,
@@ -51,13 +51,17 @@ pub const CHECKS: [&Check; 23] = [
     &properties::SHEET_BY_LABELS,
     &properties::SHEET_SHUFFLED,
     &properties::SHEET_TWICE,
+    &properties::ARC_HELD,
+    &properties::HOLDS_AS_ARCS,
+    &properties::HOLD_TABLE,
 ];
 
 /// What a case came to, for counting.
 #[derive(Clone, Copy, Debug, PartialEq, Eq, PartialOrd, Ord)]
 pub enum Outcome {
     Answered,
-    /// The arc cannot be driven, there is no name, or midnight makes no difference.
+    /// The arc cannot be driven, there is no name, or midnight or the holds make no
+    /// difference.
     Nothing,
     Refused(Refusal),
 }

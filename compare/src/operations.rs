@@ -6,7 +6,7 @@ use crate::{cabinet, reference};
 #[expect(clippy::type_complexity, reason = "the signatures are the operations'")]
 pub struct Operations {
     pub network_check: fn(&Network) -> Result<(), Refusal>,
-    pub arc_arrival: fn(u32, u32, u32, &[u32], &[u8]) -> Result<Option<Arrival>, Refusal>,
+    pub arc_arrival: fn(u32, u32, u32, u32, &[u32], &[u8]) -> Result<Option<Arrival>, Refusal>,
     pub labels: fn(&Network, u32, u32, &mut [u32], &mut [u16]) -> Result<(), Refusal>,
     pub route: fn(&Network, u32, u32, u32, &mut [u16]) -> Result<u32, Refusal>,
     pub sheet: fn(&Network, u32, &[u32], &mut [u32], &mut [u32]) -> Result<(), Refusal>,

@@ -1,6 +1,8 @@
-//! The programs' size limit, midnight and the last tick, an arc's intervals, a
+//! The programs' size limit, midnight and the last tick, an arc's intervals, holds, a
 //! sheet's list and buffers, and towns of fixed size.
 
+#[path = "boundaries/holds.rs"]
+mod holds;
 #[path = "boundaries/intervals.rs"]
 mod intervals;
 
@@ -9,6 +11,7 @@ use compare::comparison::answers::{self, TableLengths};
 use compare::comparison::program::{ARRIVALS, Program, Run, SHEET};
 use compare::comparison::{Difference, Outcome};
 use compare::inputs::OwnedNetwork;
+use compare::inputs::networks::LoneArc;
 use compare::inputs::texts::{pad, question_line, town_text};
 use compare::inputs::towns::{DEPARTURE, EVENING, SOURCE, Town, departures};
 use compare::reference::Refusal;
@@ -88,6 +91,7 @@ fn last_tick() {
         tails: vec![0, 1, 2],
         heads: vec![1, 2, 3],
         lengths: vec![length, 24_000, 1],
+        holds: vec![0; 3],
         speeds: vec![36, 1, 200],
     };
     let in_time = [863_999, 864_000, 1_728_000, UNREACHED];
@@ -109,20 +113,46 @@ fn last_tick() {
     }
 }
 
-/// The arrival's tick and interval on which both agree, for a departure's; `None` where
-/// the arc cannot be driven.
-fn arrival(
-    (departure, interval): (u32, u32),
-    length: u32,
-    fences: &[u32],
-    speeds: &[u8],
-) -> Option<(u32, u32)> {
-    if let Err(difference) = answers::arc_arrival(departure, interval, length, fences, speeds) {
-        panic!("{difference}");
+/// The number on which both agree, 0 for an answer.
+fn number(outcome: Result<Outcome, Difference>) -> u32 {
+    match outcome {
+        Ok(Outcome::Refused(Refusal(number))) => number,
+        Ok(_) => 0,
+        Err(difference) => panic!("{difference}"),
     }
-    let reply = cabinet::arc_arrival(departure, interval, length, fences, speeds);
+}
+
+/// A tick and the interval that contains its remainder by the day.
+type Moment = (u32, u32);
+
+fn lone_arc(length: u32, hold: u32, fences: &[u32], speeds: &[u8]) -> LoneArc {
+    LoneArc {
+        length,
+        hold,
+        fences: fences.to_vec(),
+        speeds: speeds.to_vec(),
+    }
+}
+
+/// The number of Arc arrival on which both agree, 0 for an answer.
+fn arc_number(arc: &LoneArc, (departure, interval): Moment) -> u32 {
+    number(answers::arc_arrival(arc, departure, interval))
+}
+
+/// The arrival on which both agree, for a departure; `None` where the arc cannot be
+/// driven.
+fn arrival_on(arc: &LoneArc, departure: Moment) -> Option<Moment> {
+    assert_eq!(arc_number(arc, departure), 0);
+    let (tick, interval) = departure;
+    let (fences, speeds) = (&arc.fences, &arc.speeds);
+    let reply = cabinet::arc_arrival(tick, interval, arc.length, arc.hold, fences, speeds);
     let arrival = reply.expect("accepted")?;
     Some((arrival.tick, arrival.interval))
+}
+
+/// The arrival on an arc without a hold.
+fn arrival(departure: Moment, length: u32, fences: &[u32], speeds: &[u8]) -> Option<Moment> {
+    arrival_on(&lone_arc(length, 0, fences, speeds), departure)
 }
 
 #[test]
@@ -155,8 +185,8 @@ fn both_sides_of_midnight() {
     ] {
         assert_eq!(metre(departure, interval), None);
     }
-    let late = cabinet::arc_arrival(1_728_001, 0, 1, &[0], &[200]);
-    assert_eq!(late, Err(Refusal(15)));
+    let late = arc_number(&lone_arc(1, 0, &[0], &[200]), (1_728_001, 0));
+    assert_eq!(late, 15);
 }
 
 #[test]
@@ -195,6 +225,7 @@ fn walk_across_midnight() {
         tails: (0..199).collect(),
         heads: (1..200).collect(),
         lengths: vec![1; 199],
+        holds: vec![0; 199],
         speeds: [18, 36].repeat(199),
     };
     // Junction 100 is reached at midnight itself, and left in the first interval.
@@ -222,6 +253,7 @@ fn equal_arrivals_after_midnight() {
         tails: vec![1, 0, 0],
         heads: vec![2, 2, 1],
         lengths: vec![1; 3],
+        holds: vec![0; 3],
         speeds: vec![36, 0, 36, 0, 36, 36],
     };
     for (departure, expected, predecessor) in [
@@ -246,18 +278,13 @@ fn equal_arrivals_after_midnight() {
     }
 }
 
-/// The number on which both agree, 0 for an answer.
-fn sheet_reply(
+fn sheet_number(
     network: &OwnedNetwork,
     source: u32,
     departures: &[u32],
     buffers: (usize, usize),
 ) -> u32 {
-    match answers::sheet(network, source, departures, buffers) {
-        Ok(Outcome::Refused(Refusal(number))) => number,
-        Ok(_) => 0,
-        Err(difference) => panic!("{difference}"),
-    }
+    number(answers::sheet(network, source, departures, buffers))
 }
 
 /// A town of ten junctions.
@@ -269,7 +296,7 @@ fn small_town() -> OwnedNetwork {
 fn sheet_lists() {
     let network = small_town();
     let reply = |source, departures: &[u32]| {
-        sheet_reply(&network, source, departures, (10 * departures.len(), 40))
+        sheet_number(&network, source, departures, (10 * departures.len(), 40))
     };
     for (count, number) in [
         (0, 30),
@@ -299,7 +326,7 @@ fn sheet_buffers() {
     for count in [1, 2, 9, 96] {
         let mut departures = vec![DEPARTURE; count];
         let rows = 10 * count;
-        assert_eq!(sheet_reply(&network, 0, &departures, (rows, 40)), 0);
+        assert_eq!(sheet_number(&network, 0, &departures, (rows, 40)), 0);
         let wrong = [
             (rows - 1, 40),
             (rows + 1, 40),
@@ -318,13 +345,13 @@ fn sheet_buffers() {
             (rows + 1, 39),
         ];
         for buffers in wrong {
-            assert_eq!(sheet_reply(&network, 0, &departures, buffers), 31);
-            assert_eq!(sheet_reply(&network, 10, &departures, buffers), 9);
-            assert_eq!(sheet_reply(&network, 0, &[], buffers), 30);
+            assert_eq!(sheet_number(&network, 0, &departures, buffers), 31);
+            assert_eq!(sheet_number(&network, 10, &departures, buffers), 9);
+            assert_eq!(sheet_number(&network, 0, &[], buffers), 30);
         }
         departures[count - 1] = 864_000;
         for buffers in wrong {
-            assert_eq!(sheet_reply(&network, 0, &departures, buffers), 10);
+            assert_eq!(sheet_number(&network, 0, &departures, buffers), 10);
         }
     }
 }
@@ -338,6 +365,7 @@ fn longest_journeys() {
         tails: vec![0; 199],
         heads: (1..200).collect(),
         lengths: vec![48_000; 199],
+        holds: vec![0; 199],
         speeds: vec![1; 199],
     };
     for late in [0, 1, 95, 96] {
@@ -363,38 +391,44 @@ fn longest_journeys() {
 #[test]
 fn towns_of_fixed_size() {
     for town in Town::NAMES.into_iter().filter_map(Town::named) {
-        let network = &town.network;
-        let junctions = network.junctions as usize;
-        let start = (SOURCE, DEPARTURE);
-        let evening = (SOURCE, EVENING);
-        let departures = departures();
-        // Without names there is room for the question.
-        let sheet_input = [question_line(SOURCE, &departures), town_text(network, &[])].concat();
-        let exact = TableLengths::exact(network.fences.len(), network.arcs());
-        let answered = [
-            answers::network_check(network),
+        assert_network_answered(&town);
+        if town.text.len() <= MAX_TEXT {
+            assert_text_answered(&town);
+        }
+        assert_network_answered(&town.with_holds());
+    }
+}
+
+fn assert_network_answered(town: &Town) {
+    let network = &town.network;
+    let junctions = network.junctions as usize;
+    assert_answered([answers::network_check(network)]);
+    for start in [(SOURCE, DEPARTURE), (SOURCE, EVENING)] {
+        assert_answered([
             answers::labels(network, start, (junctions, junctions)),
             answers::route(network, start, town.destination(), junctions),
-            answers::labels(network, evening, (junctions, junctions)),
-            answers::route(network, evening, town.destination(), junctions),
-            answers::sheet(
-                network,
-                SOURCE,
-                &departures,
-                (96 * junctions, 4 * junctions),
-            ),
-        ];
-        assert_answered(answered);
-        if town.text.len() <= MAX_TEXT {
-            assert_answered([
-                answers::load(&town.text, exact),
-                answers::name(&town.text, town.destination()),
-                answers::host_question(&town.text, start, town.destination()),
-                answers::host_question(&town.text, evening, town.destination()),
-                answers::program(&SHEET, &sheet_input),
-            ]);
-        }
+        ]);
     }
+    let buffers = (96 * junctions, 4 * junctions);
+    assert_answered([answers::sheet(network, SOURCE, &departures(), buffers)]);
+}
+
+fn assert_text_answered(town: &Town) {
+    let network = &town.network;
+    let exact = TableLengths::exact(network.fences.len(), network.arcs());
+    // Without names there is room for the question.
+    let sheet_input = [
+        question_line(SOURCE, &departures()),
+        town_text(network, &[]),
+    ]
+    .concat();
+    assert_answered([
+        answers::load(&town.text, exact),
+        answers::name(&town.text, town.destination()),
+        answers::host_question(&town.text, (SOURCE, DEPARTURE), town.destination()),
+        answers::host_question(&town.text, (SOURCE, EVENING), town.destination()),
+        answers::program(&SHEET, &sheet_input),
+    ]);
 }
 
 #[test]

@@ -128,3 +128,18 @@ fn sheet_shuffled() {
 fn sheet_twice() {
     run(&properties::SHEET_TWICE);
 }
+
+#[test]
+fn arc_held() {
+    run(&properties::ARC_HELD);
+}
+
+#[test]
+fn holds_as_arcs() {
+    run(&properties::HOLDS_AS_ARCS);
+}
+
+#[test]
+fn hold_table() {
+    run(&properties::HOLD_TABLE);
+}

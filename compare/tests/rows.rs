@@ -61,12 +61,13 @@ fn load(operations: &Operations, text: &str) -> Result<Counts, LoadRefusal> {
 /// A tick and the interval that contains its remainder by the day.
 type Moment = (u32, u32);
 
-/// Arc arrival with its input in a row's order, the departure with its interval; the
-/// arrival has its interval too. With every other interval the row must be 46.
+/// Arc arrival with its input in a row's order, without a hold, the departure with its
+/// interval; the arrival has its interval too. With every other interval the row must be
+/// 46.
 fn row(operations: &Operations) -> impl Fn(u32, &[u32], &[u8], Moment) -> Option<Moment> {
     let arc_arrival = operations.arc_arrival;
     move |length, fences, speeds, (departure, right)| {
-        let reply = |interval| arc_arrival(departure, interval, length, fences, speeds);
+        let reply = |interval| arc_arrival(departure, interval, length, 0, fences, speeds);
         let count = fences.len() as u32;
         for wrong in (0..=count).chain([u32::MAX]).filter(|&one| one != right) {
             assert_eq!(reply(wrong), Err(Refusal(46)));
@@ -211,6 +212,7 @@ fn labels_across_midnight() {
         tails: &[0, 1],
         heads: &[1, 2],
         lengths: &[10, 1],
+        holds: &[0; 2],
         speeds: &[1, 36, 12, 36],
     };
     // Over the first arc at 36 up to midnight, 864,000. From there the metre takes three
@@ -344,7 +346,7 @@ fn limits() {
         assert_eq!(check(100_001, 200), Err(Refusal(7)));
         assert_eq!(check(100_000, 201), Err(Refusal(8)));
 
-        let arrival = |length, speed| (operations.arc_arrival)(0, 0, length, &[0], &[speed]);
+        let arrival = |length, speed| (operations.arc_arrival)(0, 0, length, 0, &[0], &[speed]);
         let in_time = Arrival {
             tick: 18_000,
             interval: 0,

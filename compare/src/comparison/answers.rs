@@ -6,6 +6,7 @@ use super::lent::Lent;
 use super::program::{Program, Run};
 use super::{Difference, Outcome};
 use crate::inputs::OwnedNetwork;
+use crate::inputs::networks::LoneArc;
 use crate::operations::{CABINET, Operations, REFERENCE};
 use crate::reference::Refusal;
 use crate::reference::limits::{FIGURES, REFUSED};
@@ -56,8 +57,8 @@ pub(super) fn shown(network: &OwnedNetwork) -> Vec<u8> {
     format!("{network:#?}\n").into_bytes()
 }
 
-pub(super) fn shown_arc(fences: &[u32], speeds: &[u8]) -> Vec<u8> {
-    format!("fences {fences:?}\nspeeds {speeds:?}\n").into_bytes()
+pub(super) fn shown_arc(arc: &LoneArc) -> Vec<u8> {
+    format!("{arc:?}\n").into_bytes()
 }
 
 pub fn network_check(network: &OwnedNetwork) -> Result<Outcome, Difference> {
@@ -68,18 +69,18 @@ pub fn network_check(network: &OwnedNetwork) -> Result<Outcome, Difference> {
     Ok(Outcome::of(&reply))
 }
 
-pub fn arc_arrival(
-    departure: u32,
-    interval: u32,
-    length: u32,
-    fences: &[u32],
-    speeds: &[u8],
-) -> Result<Outcome, Difference> {
-    let question = format!("arc arrival at {departure} in {interval}, length {length}");
-    let input = || shown_arc(fences, speeds);
+pub fn arc_arrival(arc: &LoneArc, departure: u32, interval: u32) -> Result<Outcome, Difference> {
+    let question = format!("arc arrival at {departure} in {interval}, {arc}");
+    let input = || shown_arc(arc);
     let reply = compare(&question, input, |operations| {
-        let reply = (operations.arc_arrival)(departure, interval, length, fences, speeds);
-        Answer::reply(reply)
+        Answer::reply((operations.arc_arrival)(
+            departure,
+            interval,
+            arc.length,
+            arc.hold,
+            &arc.fences,
+            &arc.speeds,
+        ))
     })?;
     Ok(match reply {
         Ok(None) => Outcome::Nothing,

@@ -5,7 +5,7 @@ use super::program::{self, Program};
 use super::{Check, Difference, Outcome};
 use crate::inputs::damage::{damage_fences, damage_network, damage_text, replace_one};
 use crate::inputs::networks::{
-    interval_at, random_arc, random_arc_departure, random_departure, random_departures,
+    LoneArc, interval_at, random_arc, random_arc_departure, random_departure, random_departures,
     random_network,
 };
 use crate::inputs::texts::{pad, question_line, random_town};
@@ -21,7 +21,7 @@ pub const NETWORK_CHECK: Check = Check {
     cases: 40_000,
     run: network_check,
     finds_nothing: false,
-    refuses: &[1..=8],
+    refuses: &[1..=8, 32..=32],
 };
 
 pub const ARC_ARRIVAL: Check = Check {
@@ -29,7 +29,7 @@ pub const ARC_ARRIVAL: Check = Check {
     cases: 200_000,
     run: arc_arrival,
     finds_nothing: true,
-    refuses: &[2..=2, 4..=5, 7..=8, 15..=15, 46..=46],
+    refuses: &[2..=2, 4..=5, 7..=8, 15..=15, 32..=32, 46..=46],
 };
 
 pub const LABELS: Check = Check {
@@ -37,7 +37,7 @@ pub const LABELS: Check = Check {
     cases: 40_000,
     run: labels,
     finds_nothing: false,
-    refuses: &[1..=11],
+    refuses: &[1..=11, 32..=32],
 };
 
 pub const ROUTE: Check = Check {
@@ -45,7 +45,7 @@ pub const ROUTE: Check = Check {
     cases: 40_000,
     run: route,
     finds_nothing: false,
-    refuses: &[1..=10, 12..=14],
+    refuses: &[1..=10, 12..=14, 32..=32],
 };
 
 pub const SHEET: Check = Check {
@@ -53,7 +53,7 @@ pub const SHEET: Check = Check {
     cases: 20_000,
     run: sheet,
     finds_nothing: false,
-    refuses: &[1..=10, 30..=31],
+    refuses: &[1..=10, 30..=32],
 };
 
 pub const LOAD: Check = Check {
@@ -105,22 +105,29 @@ fn network_check(random: &mut Random) -> Result<Outcome, Difference> {
 }
 
 fn arc_arrival(random: &mut Random) -> Result<Outcome, Difference> {
-    let (mut length, mut fences, mut speeds) = random_arc(random);
-    let mut departure = random_arc_departure(random, &fences);
+    let mut arc = random_arc(random);
+    let mut departure = random_arc_departure(random, &arc.fences);
     for _ in 0..random.below(3) {
-        match random.below(8) {
+        let LoneArc {
+            length,
+            hold,
+            fences,
+            speeds,
+        } = &mut arc;
+        match random.below(9) {
             0 => fences.resize(random.pick(&[0, MAX_INTERVALS + 1]), DAY - 1),
             1 => speeds.push(1),
             2 => drop(speeds.pop()),
-            3 => damage_fences(random, &mut fences),
-            4 => length = random.pick(&[0, 1, MAX_LENGTH, MAX_LENGTH + 1, u32::MAX]),
-            5 => replace_one(random, &mut speeds, &[MAX_SPEED, MAX_SPEED + 1, u8::MAX]),
-            6 => departure = random.pick(&[LAST_TICK - 1, LAST_TICK]),
+            3 => damage_fences(random, fences),
+            4 => *length = random.pick(&[0, 1, MAX_LENGTH, MAX_LENGTH + 1, u32::MAX]),
+            5 => replace_one(random, speeds, &[MAX_SPEED, MAX_SPEED + 1, u8::MAX]),
+            6 => *hold = random.pick(&LONG_HOLDS),
+            7 => departure = random.pick(&[LAST_TICK - 1, LAST_TICK]),
             _ => departure = random.pick(&[LAST_TICK + 1, u32::MAX]),
         }
     }
-    let interval = random_interval(random, departure, &fences);
-    answers::arc_arrival(departure, interval, length, &fences, &speeds)
+    let interval = random_interval(random, departure, &arc.fences);
+    answers::arc_arrival(&arc, departure, interval)
 }
 
 fn labels(random: &mut Random) -> Result<Outcome, Difference> {
@@ -236,6 +243,9 @@ fn random_damaged_town(random: &mut Random) -> (OwnedNetwork, Vec<u8>) {
     }
     (network, text)
 }
+
+/// The longest hold, and longer ones, of which some would be short if they lost bits.
+const LONG_HOLDS: [u32; 6] = [1_200, 1_201, 65_535, 65_536, 66_736, u32::MAX];
 
 /// Departures that no question has.
 const LATE: [u32; 4] = [DAY, DAY + 1, 9_999_999, u32::MAX];

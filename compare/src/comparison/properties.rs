@@ -1,10 +1,12 @@
 //! Properties of the library's own answers, reckoned without the reference:
 //! tick by tick and walk by walk, as the documents define arrivals and labels.
 
+mod holds;
 mod intervals;
 mod midnight;
 mod sheets;
 
+pub use holds::{ARC_HELD, HOLD_TABLE, HOLDS_AS_ARCS};
 pub use intervals::{INTERVALS_PASSED_ON, LABELS_BY_ARCS, LABELS_OF_PATHS, ONE_INTERVAL};
 pub use midnight::{DAY_LATER, LABELS_ROTATED};
 pub use sheets::{SHEET_BY_LABELS, SHEET_SHUFFLED, SHEET_TWICE};
@@ -13,12 +15,12 @@ use super::answers::{shown, shown_arc};
 use super::{Check, Difference, Outcome};
 use crate::cabinet;
 use crate::inputs::networks::{
-    improve, interval_at, random_arc, random_arc_departure, random_departure, random_network,
-    random_towards, small_network,
+    LoneArc, improve, interval_at, random_arc, random_arc_departure, random_departure,
+    random_network, random_towards, small_network,
 };
 use crate::inputs::{OwnedNetwork, Random};
-use crate::reference::Arrival;
 use crate::reference::limits::{DAY, LAST_TICK, NO_ARC, UNREACHED};
+use crate::reference::{Arrival, Refusal};
 
 pub const NON_PASSING: Check = Check {
     name: "non-passing",
@@ -54,20 +56,18 @@ pub const IMPROVEMENT: Check = Check {
 
 /// Leaving later never arrives earlier.
 fn non_passing(random: &mut Random) -> Result<Outcome, Difference> {
-    let (length, fences, speeds) = random_arc(random);
-    let earlier = random_arc_departure(random, &fences);
+    let arc = random_arc(random);
+    let earlier = random_arc_departure(random, &arc.fences);
     let later = random_towards(random, earlier, LAST_TICK);
     let arrival = |departure| {
-        let interval = interval_at(&fences, departure);
-        let reply = cabinet::arc_arrival(departure, interval, length, &fences, &speeds);
-        let arrival = reply.expect("a good arc");
+        let arrival = cabinet_arrival(&arc, departure);
         arrival.map_or(UNREACHED, |arrival| arrival.tick)
     };
     let (first, second) = (arrival(earlier), arrival(later));
     if first > second {
         return Err(Difference {
-            question: format!("length {length}, leaving at {earlier} and at {later}"),
-            input: shown_arc(&fences, &speeds),
+            question: format!("{arc}, leaving at {earlier} and at {later}"),
+            input: shown_arc(&arc),
             expected: format!("an arrival not after {second}"),
             found: format!("{first}"),
         });
@@ -76,21 +76,41 @@ fn non_passing(random: &mut Random) -> Result<Outcome, Difference> {
 }
 
 fn arc_by_ticks(random: &mut Random) -> Result<Outcome, Difference> {
-    let (length, fences, speeds) = random_arc(random);
-    let departure = random_arc_departure(random, &fences);
-    let interval = interval_at(&fences, departure);
-    let tick = arrival_by_ticks(departure, length, &fences, &speeds);
-    let expected = tick.map(|tick| arrival_at(&fences, tick));
-    let found = cabinet::arc_arrival(departure, interval, length, &fences, &speeds);
+    let arc = random_arc(random);
+    let departure = random_arc_departure(random, &arc.fences);
+    let tick = arrival_by_ticks(departure, arc.length, arc.hold, &arc.fences, &arc.speeds);
+    let expected = tick.map(|tick| arrival_at(&arc.fences, tick));
+    expect_arrival(&arc, departure, expected)
+}
+
+fn expect_arrival(
+    arc: &LoneArc,
+    departure: u32,
+    expected: Option<Arrival>,
+) -> Result<Outcome, Difference> {
+    let interval = interval_at(&arc.fences, departure);
+    let found = cabinet_reply(arc, departure, interval);
     if found != Ok(expected) {
         return Err(Difference {
-            question: format!("length {length}, leaving at {departure}"),
-            input: shown_arc(&fences, &speeds),
+            question: format!("{arc}, leaving at {departure}"),
+            input: shown_arc(arc),
             expected: format!("{expected:?}"),
             found: format!("{found:?}"),
         });
     }
     Ok(driven(expected))
+}
+
+/// The library's arrival on a good arc, left in the interval of the departure.
+fn cabinet_arrival(arc: &LoneArc, departure: u32) -> Option<Arrival> {
+    let interval = interval_at(&arc.fences, departure);
+    cabinet_reply(arc, departure, interval).expect("a good arc")
+}
+
+/// The library's answer of Arc arrival.
+fn cabinet_reply(arc: &LoneArc, departure: u32, interval: u32) -> Result<Option<Arrival>, Refusal> {
+    let (fences, speeds) = (&arc.fences, &arc.speeds);
+    cabinet::arc_arrival(departure, interval, arc.length, arc.hold, fences, speeds)
 }
 
 fn driven<T>(arrival: Option<T>) -> Outcome {
@@ -106,8 +126,14 @@ fn arrival_at(fences: &[u32], tick: u32) -> Arrival {
 }
 
 /// Adds up the speed of each tick until the length is covered; it is that of the
-/// interval that contains the tick's remainder by the day.
-fn arrival_by_ticks(departure: u32, length: u32, fences: &[u32], speeds: &[u8]) -> Option<u32> {
+/// interval that contains the tick's remainder by the day. Then the hold is waited out.
+fn arrival_by_ticks(
+    departure: u32,
+    length: u32,
+    hold: u32,
+    fences: &[u32],
+    speeds: &[u8],
+) -> Option<u32> {
     let mut interval = 0;
     let mut spans = 0;
     for tick in departure..LAST_TICK {
@@ -123,10 +149,15 @@ fn arrival_by_ticks(departure: u32, length: u32, fences: &[u32], speeds: &[u8]) 
         }
         spans += u32::from(speeds[interval]);
         if spans >= 36 * length {
-            return Some(tick + 1);
+            return in_time(tick + 1 + hold);
         }
     }
     None
+}
+
+/// The tick, unless it is after the last one.
+fn in_time(tick: u32) -> Option<u32> {
+    (tick <= LAST_TICK).then_some(tick)
 }
 
 /// Labels, predecessors and routes against every walk of a small network.
@@ -223,8 +254,9 @@ impl<'a> Walks<'a> {
 
     fn drive(&self, arc: usize, departure: u32) -> Option<u32> {
         let network = self.network.lent();
+        let (length, hold) = (network.lengths[arc], network.holds[arc].into());
         let speeds = network.arc_speeds(arc);
-        arrival_by_ticks(departure, network.lengths[arc], network.fences, speeds)
+        arrival_by_ticks(departure, length, hold, network.fences, speeds)
     }
 
     /// The lowest arc that attains the junction's label, if it has one.
@@ -266,8 +298,8 @@ impl<'a> Walks<'a> {
     }
 }
 
-/// More junctions and arcs, shorter and faster ones and an earlier departure,
-/// all together, make no label later.
+/// More junctions and arcs, shorter and faster ones with shorter holds and an earlier
+/// departure, all together, make no label later.
 fn improvement(random: &mut Random) -> Result<Outcome, Difference> {
     let network = random_network(random);
     let improved = improve(random, &network);

@@ -3,5 +3,5 @@
 mod networks;
 mod texts;
 
-pub use networks::{damage_fences, damage_network, replace_one};
+pub use networks::{damage_fences, damage_holds, damage_network, replace_one};
 pub use texts::damage_text;

@@ -12,13 +12,14 @@ AR 1 2 50 36 36
 CM end of plan
 ";
 
-/// What the text holds.
+/// What the text says; town files so far have hold 0.
 pub const TOWN: Network = Network {
     junctions: 3,
     fences: &[0, 100],
     tails: &[0, 0, 1],
     heads: &[1, 2, 2],
     lengths: &[50, 100, 50],
+    holds: &[0; 3],
     speeds: &[36, 18, 40, 20, 36, 36],
 };
 
@@ -30,6 +31,7 @@ pub const TABLE_1: Network = Network {
     tails: &[0, 0, 1, 1, 2, 2, 3],
     heads: &[1, 2, 2, 3, 3, 4, 4],
     lengths: &[10_000; 7],
+    holds: &[0; 7],
     speeds: &[
         40, 40, 40, 40, 40, 40, 40, 40, 40,
         60, 30, 10, 20, 40, 60, 60, 60, 60,

@@ -1,6 +1,6 @@
 //! Street grids as a town might have them.
 
-use super::networks::Arc;
+use super::networks::{Arc, random_largest_hold};
 use super::{OwnedNetwork, Random};
 use crate::reference::limits::{DAY, MAX_ARCS};
 
@@ -8,10 +8,13 @@ pub(super) fn random_grid(random: &mut Random, intervals: usize) -> OwnedNetwork
     let columns = random.up_to_one_of(&[4, 20]);
     let rows = random.up_to_one_of(&[3, 10]);
     let arcs = random.index(MAX_ARCS + 1);
-    street_grid(random, (columns, rows), intervals, arcs)
+    let mut network = street_grid(random, (columns, rows), intervals, arcs);
+    let largest = random_largest_hold(random);
+    network.hold_up_to(random, largest);
+    network
 }
 
-/// A connected grid of streets. Every junction but the first has a two-way
+/// A connected grid of streets without holds. Every junction but the first has a two-way
 /// street to the left or upwards; further one-way streets fill up the count.
 pub fn street_grid(
     random: &mut Random,
@@ -29,6 +32,7 @@ pub fn street_grid(
             tail,
             head,
             length: 50 + random.below(4_951),
+            hold: 0,
             speeds: street_speeds(random, intervals),
         };
         network.insert_arc(network.arcs(), street);

@@ -1,10 +1,13 @@
 //! Random networks that Network check accepts, and improved ones.
 
+use std::fmt;
+use std::mem;
+
 use super::Random;
 use super::grids::random_grid;
 use crate::reference::Network;
 use crate::reference::limits::{
-    DAY, LAST_TICK, MAX_ARCS, MAX_INTERVALS, MAX_JUNCTIONS, MAX_LENGTH, MAX_SPEED,
+    DAY, LAST_TICK, MAX_ARCS, MAX_HOLD, MAX_INTERVALS, MAX_JUNCTIONS, MAX_LENGTH, MAX_SPEED,
 };
 
 #[derive(Clone, Debug, Default, PartialEq)]
@@ -14,6 +17,7 @@ pub struct OwnedNetwork {
     pub tails: Vec<u16>,
     pub heads: Vec<u16>,
     pub lengths: Vec<u32>,
+    pub holds: Vec<u16>,
     pub speeds: Vec<u8>,
 }
 
@@ -25,6 +29,7 @@ impl OwnedNetwork {
             tails: &self.tails,
             heads: &self.heads,
             lengths: &self.lengths,
+            holds: &self.holds,
             speeds: &self.speeds,
         }
     }
@@ -59,11 +64,39 @@ impl OwnedNetwork {
         }
     }
 
+    /// Gives every arc a hold up to the largest.
+    pub(super) fn hold_up_to(&mut self, random: &mut Random, largest: u16) {
+        self.holds.fill_with(|| random_hold(random, largest));
+    }
+
+    /// Makes a junction of a held arc's stop line. From there the hold is driven out, a
+    /// metre in each tick at 36, on an arc that keeps the number. The way to the stop line
+    /// gets a number after all others.
+    pub fn make_stop_line_a_junction(&mut self, arc: usize) {
+        let stop_line = self.junctions as u16;
+        self.junctions += 1;
+        let tail = mem::replace(&mut self.tails[arc], stop_line);
+        let hold = mem::take(&mut self.holds[arc]);
+        let length = mem::replace(&mut self.lengths[arc], hold.into());
+        let intervals = self.fences.len();
+        let speeds = &mut self.speeds[arc * intervals..][..intervals];
+        let way = Arc {
+            tail,
+            head: stop_line,
+            length,
+            hold: 0,
+            speeds: speeds.to_vec(),
+        };
+        speeds.fill(36);
+        self.insert_arc(self.arcs(), way);
+    }
+
     pub(super) fn insert_arc(&mut self, place: usize, arc: Arc) {
         let first_speed = place * self.fences.len();
         self.tails.insert(place, arc.tail);
         self.heads.insert(place, arc.head);
         self.lengths.insert(place, arc.length);
+        self.holds.insert(place, arc.hold);
         self.speeds.splice(first_speed..first_speed, arc.speeds);
     }
 }
@@ -72,6 +105,7 @@ pub(super) struct Arc {
     pub tail: u16,
     pub head: u16,
     pub length: u32,
+    pub hold: u16,
     pub speeds: Vec<u8>,
 }
 
@@ -79,6 +113,7 @@ pub(super) struct Arc {
 /// arrivals, large ones many arcs that cannot be driven.
 struct Scale {
     length: u32,
+    hold: u16,
     speed: u32,
     /// One speed in so many is 0.
     standstill: u32,
@@ -88,6 +123,7 @@ impl Scale {
     fn random(random: &mut Random) -> Self {
         Self {
             length: random.pick(&[1, 3, 50, 5_000, MAX_LENGTH]),
+            hold: random_largest_hold(random),
             speed: random.pick(&[2, 36, 120, MAX_SPEED.into()]),
             standstill: random.pick(&[2, 5, 1_000]),
         }
@@ -108,16 +144,28 @@ impl Scale {
         (0..intervals).map(speed).collect()
     }
 
-    /// An arc between any two of at least two junctions.
-    fn arc(&self, random: &mut Random, junctions: u32, intervals: usize) -> Arc {
-        let tail = random.below(junctions);
-        let head = (tail + 1 + random.below(junctions - 1)) % junctions;
+    fn arc(&self, random: &mut Random, (tail, head): (u32, u32), intervals: usize) -> Arc {
         Arc {
             tail: tail as u16,
             head: head as u16,
             length: self.length(random),
+            hold: random_hold(random, self.hold),
             speeds: self.speeds(random, intervals),
         }
+    }
+}
+
+/// The largest hold of a network: none at all, few ticks, or as many as there may be.
+pub(super) fn random_largest_hold(random: &mut Random) -> u16 {
+    random.pick(&[0, 2, 60, MAX_HOLD])
+}
+
+/// A hold up to the largest, often none or the largest itself.
+fn random_hold(random: &mut Random, largest: u16) -> u16 {
+    match random.below(4) {
+        0 => 0,
+        1 => largest,
+        _ => random.below(u32::from(largest) + 1) as u16,
     }
 }
 
@@ -138,13 +186,8 @@ pub fn random_path(random: &mut Random) -> OwnedNetwork {
     let intervals = random_intervals(random);
     let scale = Scale::random(random);
     let mut network = network_of(random, junctions, intervals, 0);
-    for tail in 0..junctions as u16 - 1 {
-        let arc = Arc {
-            tail,
-            head: tail + 1,
-            length: scale.length(random),
-            speeds: scale.speeds(random, intervals),
-        };
+    for tail in 0..junctions - 1 {
+        let arc = scale.arc(random, (tail, tail + 1), intervals);
         network.insert_arc(network.arcs(), arc);
     }
     network
@@ -177,8 +220,16 @@ fn add_arcs(random: &mut Random, network: &mut OwnedNetwork, arcs: usize) {
     let intervals = network.fences.len();
     for _ in 0..arcs {
         let place = random.index(network.arcs() + 1);
-        network.insert_arc(place, scale.arc(random, network.junctions, intervals));
+        let ends = random_ends(random, network.junctions);
+        network.insert_arc(place, scale.arc(random, ends, intervals));
     }
+}
+
+/// Any two of at least two junctions.
+fn random_ends(random: &mut Random, junctions: u32) -> (u32, u32) {
+    let tail = random.below(junctions);
+    let head = (tail + 1 + random.below(junctions - 1)) % junctions;
+    (tail, head)
 }
 
 fn random_intervals(random: &mut Random) -> usize {
@@ -204,13 +255,31 @@ fn random_fences(random: &mut Random, intervals: usize) -> Vec<u32> {
     fences
 }
 
-/// One arc's length, fences and speeds.
-pub fn random_arc(random: &mut Random) -> (u32, Vec<u32>, Vec<u8>) {
+/// One arc with the fences of its speeds, as Arc arrival takes it.
+#[derive(Debug)]
+pub struct LoneArc {
+    pub length: u32,
+    pub hold: u32,
+    pub fences: Vec<u32>,
+    pub speeds: Vec<u8>,
+}
+
+/// What a question says of it; its tables are shown apart.
+impl fmt::Display for LoneArc {
+    fn fmt(&self, f: &mut fmt::Formatter) -> fmt::Result {
+        write!(f, "length {} and hold {}", self.length, self.hold)
+    }
+}
+
+pub fn random_arc(random: &mut Random) -> LoneArc {
     let intervals = random_intervals(random);
     let scale = Scale::random(random);
-    let length = scale.length(random);
-    let fences = random_fences(random, intervals);
-    (length, fences, scale.speeds(random, intervals))
+    LoneArc {
+        length: scale.length(random),
+        hold: random_hold(random, scale.hold).into(),
+        fences: random_fences(random, intervals),
+        speeds: scale.speeds(random, intervals),
+    }
 }
 
 /// The interval that contains a tick's remainder by the day, by a look at every fence.
@@ -258,7 +327,7 @@ pub fn random_arc_departure(random: &mut Random, fences: &[u32]) -> u32 {
     }
 }
 
-/// More junctions, more arcs, shorter and faster ones, all together.
+/// More junctions, more arcs, shorter and faster ones with shorter holds, all together.
 pub fn improve(random: &mut Random, network: &OwnedNetwork) -> OwnedNetwork {
     let mut improved = network.clone();
     improved.junctions += random.below(MAX_JUNCTIONS + 1 - network.junctions);
@@ -266,6 +335,11 @@ pub fn improve(random: &mut Random, network: &OwnedNetwork) -> OwnedNetwork {
     for length in &mut improved.lengths {
         if random.one_in(chances) {
             *length = random_towards(random, *length, 1);
+        }
+    }
+    for hold in &mut improved.holds {
+        if random.one_in(chances) {
+            *hold = random_towards(random, (*hold).into(), 0) as u16;
         }
     }
     for speed in &mut improved.speeds {
@@ -303,6 +377,7 @@ mod tests {
             tails: vec![0, 1],
             heads: vec![1, 2],
             lengths: vec![50, 100],
+            holds: vec![0, 5],
             speeds: vec![36, 18, 40, 20],
         };
         // The first interval is parted by the new midnight.
@@ -313,6 +388,31 @@ mod tests {
         let rotated = network.with_day_from(100);
         assert_eq!(rotated.fences, [0, 863_900]);
         assert_eq!(rotated.speeds, [18, 36, 20, 40]);
+        assert_eq!(rotated.holds, network.holds);
         assert_eq!(network.with_day_from(0), network);
+    }
+
+    #[test]
+    fn makes_a_stop_line_a_junction() {
+        let mut network = OwnedNetwork {
+            junctions: 3,
+            fences: vec![0, 100],
+            tails: vec![0, 1],
+            heads: vec![1, 2],
+            lengths: vec![50, 100],
+            holds: vec![5, 7],
+            speeds: vec![36, 18, 40, 20],
+        };
+        network.make_stop_line_a_junction(0);
+        let expected = OwnedNetwork {
+            junctions: 4,
+            fences: vec![0, 100],
+            tails: vec![3, 1, 0],
+            heads: vec![1, 2, 3],
+            lengths: vec![5, 100, 50],
+            holds: vec![0, 7, 0],
+            speeds: vec![36, 36, 40, 20, 36, 18],
+        };
+        assert_eq!(network, expected);
     }
 }

@@ -8,7 +8,8 @@ use crate::reference::limits::{MAX_LINE, MAX_NAME};
 
 /// A network and its town file with names and comments, valid unless too long.
 pub fn random_town(random: &mut Random) -> (OwnedNetwork, Vec<u8>) {
-    let network = random_network(random);
+    let mut network = random_network(random);
+    network.holds.fill(0);
     let names = random_names(random, network.junctions);
     let mut lines = lines(&town_text(&network, &names));
     for _ in 0..random.below(4) {
@@ -53,7 +54,7 @@ fn printed_bytes(random: &mut Random, length: usize) -> Vec<u8> {
     (0..length).map(|_| 32 + random.below(95) as u8).collect()
 }
 
-/// Writes a network as a town file.
+/// Writes a network as a town file, which cannot say its holds.
 pub fn town_text(network: &OwnedNetwork, names: &[(u32, String)]) -> Vec<u8> {
     let mut text = String::new();
     write_town(&mut text, network, names).expect("a string takes every line");

@@ -3,7 +3,7 @@
 use super::grids::street_grid;
 use super::texts::{pad, town_text};
 use super::{OwnedNetwork, Random};
-use crate::reference::limits::{DAY, MAX_ARCS, MAX_DEPARTURES, MAX_INTERVALS, MAX_TEXT};
+use crate::reference::limits::{DAY, MAX_ARCS, MAX_DEPARTURES, MAX_HOLD, MAX_INTERVALS, MAX_TEXT};
 
 pub struct Town {
     pub name: &'static str,
@@ -61,6 +61,13 @@ impl Town {
             text: town_text(&network, &names),
             network,
         }
+    }
+
+    /// The same streets with holds, none at about a quarter of the arcs, else up to the
+    /// longest. Its town file is that of the town without them.
+    pub fn with_holds(mut self) -> Self {
+        self.network.hold_up_to(&mut Random::new(2), MAX_HOLD);
+        self
     }
 
     /// The corner opposite to the source.

@@ -1,6 +1,6 @@
 use super::Refusal;
 use super::limits::{DAY, LAST_TICK, SPANS_PER_METRE};
-use super::network::{check_fence_count, check_fences, check_length, check_speeds};
+use super::network::{check_fence_count, check_fences, check_hold, check_length, check_speeds};
 
 /// A tick of arrival and the interval that contains its remainder by the day.
 #[derive(Clone, Copy, Debug, PartialEq, Eq)]
@@ -14,6 +14,7 @@ pub fn arc_arrival(
     departure: u32,
     interval: u32,
     length: u32,
+    hold: u32,
     fences: &[u32],
     speeds: &[u8],
 ) -> Result<Option<Arrival>, Refusal> {
@@ -22,9 +23,10 @@ pub fn arc_arrival(
     check_fences(fences)?;
     check_length(length)?;
     check_speeds(speeds)?;
+    check_hold(hold)?;
     Refusal::DEPARTURE_AFTER_LAST.unless(departure <= LAST_TICK)?;
     Refusal::DEPARTURE_INTERVAL.unless(contains(fences, interval, departure % DAY))?;
-    Ok(Departure::new(departure, interval).drive(length, fences, speeds))
+    Ok(Departure::new(departure, interval).drive(length, hold, fences, speeds))
 }
 
 /// Whether there is this interval and it contains the tick of the first day.
@@ -59,8 +61,10 @@ impl Departure {
         }
     }
 
-    /// Drives a checked arc, day by day: at midnight its speeds start again.
-    pub fn drive(&self, length: u32, fences: &[u32], speeds: &[u8]) -> Option<Arrival> {
+    /// Drives a checked arc, day by day: at midnight its speeds start again. At its end
+    /// the hold is waited out.
+    #[inline]
+    pub fn drive(&self, length: u32, hold: u32, fences: &[u32], speeds: &[u8]) -> Option<Arrival> {
         let mut tick = self.tick;
         let mut remaining = SPANS_PER_METRE * length;
         let mut midnight = self.midnight;
@@ -68,24 +72,16 @@ impl Departure {
         // The last tick is itself a midnight, so no day reaches beyond it.
         while midnight < LAST_TICK {
             for (interval, &speed) in speeds.iter().enumerate().skip(first) {
-                let next = interval + 1;
-                let end = midnight + fences.get(next).copied().unwrap_or(DAY);
+                let end = midnight + fences.get(interval + 1).copied().unwrap_or(DAY);
                 let speed = u32::from(speed);
                 let covered = speed * (end - tick);
                 if remaining <= covered {
-                    let tick = tick + remaining.div_ceil(speed);
-                    // At the end the next interval starts, at midnight the first.
-                    let interval = if tick < end {
-                        interval
-                    } else if next < speeds.len() {
-                        next
-                    } else {
-                        0
-                    };
-                    return Some(Arrival {
-                        tick,
-                        interval: interval as u32,
-                    });
+                    let tick = tick + remaining.div_ceil(speed) + hold;
+                    if tick < end {
+                        let interval = interval as u32;
+                        return Some(Arrival { tick, interval });
+                    }
+                    return arrival_after(interval, midnight, tick, fences);
                 }
                 remaining -= covered;
                 tick = end;
@@ -97,30 +93,63 @@ impl Departure {
     }
 }
 
+/// The arrival at a tick after this interval of the day that starts at this midnight, or
+/// `None` if it is after the last one.
+fn arrival_after(interval: usize, midnight: u32, tick: u32, fences: &[u32]) -> Option<Arrival> {
+    if tick > LAST_TICK {
+        return None;
+    }
+    let since_midnight = tick - midnight;
+    // A hold is shorter than a day, so at most one midnight comes between.
+    let (mut interval, remainder) = if since_midnight < DAY {
+        (interval + 1, since_midnight)
+    } else {
+        (0, since_midnight - DAY)
+    };
+    while fences
+        .get(interval + 1)
+        .is_some_and(|&fence| fence <= remainder)
+    {
+        interval += 1;
+    }
+    let interval = interval as u32;
+    Some(Arrival { tick, interval })
+}
+
 #[cfg(test)]
 mod tests {
     use super::*;
 
-    /// The arrival's tick and interval, for a departure's.
-    fn arrival(
+    /// A tick and its interval.
+    type Moment = (u32, u32);
+
+    /// The arrival, with a hold, for a departure.
+    fn held(
         length: u32,
+        hold: u32,
         fences: &[u32],
         speeds: &[u8],
-        (departure, interval): (u32, u32),
-    ) -> Option<(u32, u32)> {
-        let reply = arc_arrival(departure, interval, length, fences, speeds);
+        (departure, interval): Moment,
+    ) -> Option<Moment> {
+        let reply = arc_arrival(departure, interval, length, hold, fences, speeds);
         let arrival = reply.expect("accepted")?;
         Some((arrival.tick, arrival.interval))
     }
 
+    /// The arrival without a hold.
+    fn arrival(length: u32, fences: &[u32], speeds: &[u8], departure: Moment) -> Option<Moment> {
+        held(length, 0, fences, speeds, departure)
+    }
+
     /// The number that refuses a departure with its interval, or 0.
     fn refused(
-        (departure, interval): (u32, u32),
+        (departure, interval): Moment,
         length: u32,
+        hold: u32,
         fences: &[u32],
         speeds: &[u8],
     ) -> u32 {
-        let reply = arc_arrival(departure, interval, length, fences, speeds);
+        let reply = arc_arrival(departure, interval, length, hold, fences, speeds);
         reply.map_or_else(|refusal| refusal.0, |_| 0)
     }
 
@@ -209,6 +238,66 @@ mod tests {
     }
 
     #[test]
+    fn waits_the_hold_out_at_the_end() {
+        // The stop line is reached at 99, a tick before the fence.
+        let fences = [0, 100, 105, 110, 863_990];
+        let arrived = |hold| held(1, hold, &fences, &[36, 0, 0, 0, 0], (98, 0));
+        for (hold, expected) in [
+            (0, (99, 0)),
+            (1, (100, 1)),
+            (5, (104, 1)),
+            (6, (105, 2)),
+            (10, (109, 2)),
+            (11, (110, 3)),
+            (1_200, (1_299, 3)),
+        ] {
+            assert_eq!(arrived(hold), Some(expected));
+        }
+        // Reached on the fence itself.
+        let arrived = |hold| held(1, hold, &fences, &[36, 0, 0, 0, 0], (99, 0));
+        assert_eq!(arrived(4), Some((104, 1)));
+        assert_eq!(arrived(5), Some((105, 2)));
+    }
+
+    #[test]
+    fn holds_across_midnight() {
+        let fences = [0, 10, 20, 863_990];
+        // Reached five ticks before it.
+        let arrived = |hold| held(1, hold, &fences, &[0, 0, 0, 36], (863_994, 3));
+        for (hold, expected) in [
+            (4, (863_999, 3)),
+            (5, (864_000, 0)),
+            (14, (864_009, 0)),
+            (15, (864_010, 1)),
+            (25, (864_020, 2)),
+            (1_200, (865_195, 2)),
+        ] {
+            assert_eq!(arrived(hold), Some(expected));
+        }
+        // Reached at midnight itself.
+        let arrived = |hold| held(1, hold, &fences, &[0, 0, 0, 36], (863_999, 3));
+        assert_eq!(arrived(0), Some((864_000, 0)));
+        assert_eq!(arrived(9), Some((864_009, 0)));
+        assert_eq!(arrived(10), Some((864_010, 1)));
+    }
+
+    #[test]
+    fn holds_up_to_the_last_tick() {
+        let last = Some((1_728_000, 0));
+        for (hold, departure) in [(0, 1_727_999), (1, 1_727_998), (1_200, 1_726_799)] {
+            for fences in [&[0][..], &[0, 863_999], &[0, 100]] {
+                let speeds = &[36, 36][..fences.len()];
+                let held = |departure| {
+                    let interval = interval_at(departure % DAY, fences);
+                    held(1, hold, fences, speeds, (departure, interval))
+                };
+                assert_eq!(held(departure), last);
+                assert_eq!(held(departure + 1), None);
+            }
+        }
+    }
+
+    #[test]
     fn finds_the_interval_of_a_tick() {
         let fences = [0, 10, 863_990];
         for (tick, interval) in [
@@ -229,30 +318,37 @@ mod tests {
     #[test]
     fn refuses_each_number() {
         let start = (0, 0);
-        assert_eq!(refused(start, 1, &[], &[]), 2);
-        assert_eq!(refused(start, 1, &[0; 97], &[1; 97]), 2);
-        assert_eq!(refused(start, 1, &[0], &[1, 1]), 4);
-        assert_eq!(refused(start, 1, &[0, 5], &[1]), 4);
-        assert_eq!(refused(start, 1, &[1], &[1]), 5);
-        assert_eq!(refused(start, 0, &[0], &[1]), 7);
-        assert_eq!(refused(start, 100_001, &[0], &[1]), 7);
-        assert_eq!(refused(start, 1, &[0], &[201]), 8);
-        assert_eq!(refused((1_728_001, 0), 1, &[0], &[1]), 15);
-        assert_eq!(refused((0, 1), 1, &[0], &[1]), 46);
-        assert_eq!(refused((4, 1), 1, &[0, 5], &[1, 1]), 46);
-        assert_eq!(refused((5, 0), 1, &[0, 5], &[1, 1]), 46);
+        assert_eq!(refused(start, 1, 0, &[], &[]), 2);
+        assert_eq!(refused(start, 1, 0, &[0; 97], &[1; 97]), 2);
+        assert_eq!(refused(start, 1, 0, &[0], &[1, 1]), 4);
+        assert_eq!(refused(start, 1, 0, &[0, 5], &[1]), 4);
+        assert_eq!(refused(start, 1, 0, &[1], &[1]), 5);
+        assert_eq!(refused(start, 0, 0, &[0], &[1]), 7);
+        assert_eq!(refused(start, 100_001, 0, &[0], &[1]), 7);
+        assert_eq!(refused(start, 1, 0, &[0], &[201]), 8);
+        for hold in [1_201, 65_536, u32::MAX] {
+            assert_eq!(refused(start, 1, hold, &[0], &[1]), 32);
+        }
+        assert_eq!(refused((1_728_001, 0), 1, 0, &[0], &[1]), 15);
+        assert_eq!(refused((0, 1), 1, 0, &[0], &[1]), 46);
+        assert_eq!(refused((4, 1), 1, 0, &[0, 5], &[1, 1]), 46);
+        assert_eq!(refused((5, 0), 1, 0, &[0, 5], &[1, 1]), 46);
     }
 
     #[test]
     fn refuses_in_the_papers_order() {
         let late = (u32::MAX, u32::MAX);
-        assert_eq!(refused(late, 0, &[], &[201]), 2);
-        assert_eq!(refused(late, 0, &[1], &[201; 2]), 4);
-        assert_eq!(refused(late, 0, &[1], &[201]), 5);
-        assert_eq!(refused(late, 0, &[0], &[201]), 7);
-        assert_eq!(refused(late, 1, &[0], &[201]), 8);
-        assert_eq!(refused(late, 1, &[0], &[200]), 15);
-        assert_eq!(refused((1_728_000, u32::MAX), 1, &[0], &[200]), 46);
-        assert_eq!(refused((1_728_000, 0), 1, &[0], &[200]), 0);
+        let hold = u32::MAX;
+        assert_eq!(refused(late, 0, hold, &[], &[201]), 2);
+        assert_eq!(refused(late, 0, hold, &[1], &[201; 2]), 4);
+        assert_eq!(refused(late, 0, hold, &[1], &[201]), 5);
+        assert_eq!(refused(late, 0, hold, &[0], &[201]), 7);
+        assert_eq!(refused(late, 1, hold, &[0], &[201]), 8);
+        assert_eq!(refused(late, 1, hold, &[0], &[200]), 32);
+        assert_eq!(refused(late, 1, 1_200, &[0], &[200]), 15);
+        let last = 1_728_000;
+        assert_eq!(refused((last, u32::MAX), 1, hold, &[0], &[200]), 32);
+        assert_eq!(refused((last, u32::MAX), 1, 1_200, &[0], &[200]), 46);
+        assert_eq!(refused((last, 0), 1, 1_200, &[0], &[200]), 0);
     }
 }

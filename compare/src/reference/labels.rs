@@ -74,8 +74,9 @@ impl<'n> Search<'n> {
                     continue; // settled before, since every arc takes a tick or more
                 }
                 let length = network.lengths[arc];
+                let hold = network.holds[arc].into();
                 let speeds = network.arc_speeds(arc);
-                let Some(arrival) = start.drive(length, network.fences, speeds) else {
+                let Some(arrival) = start.drive(length, hold, network.fences, speeds) else {
                     continue;
                 };
                 if arrival.tick < *label {
@@ -159,6 +160,7 @@ mod tests {
             tails: &[0, 1, 0, 0],
             heads: &[2, 2, 2, 1],
             lengths: &[3, 1, 2, 1],
+            holds: &[0; 4],
             speeds: &[36, 36, 36, 36],
         };
         let (ticks, predecessors) = labelled(&network, 0, 0);
@@ -176,6 +178,7 @@ mod tests {
             tails: &[0, 1],
             heads: &[1, 2],
             lengths: &[10, 1],
+            holds: &[0; 2],
             speeds: &[1, 36, 12, 36],
         };
         let (ticks, predecessors) = labelled(&network, 0, 863_990);
@@ -193,6 +196,7 @@ mod tests {
             tails: &[0, 0, 1],
             heads: &[2, 1, 2],
             lengths: &[1, 50, 50],
+            holds: &[0; 3],
             speeds: &[36, 0, 36, 36, 36, 36],
         };
         let (ticks, predecessors) = labelled(&network, 0, 99);
@@ -204,6 +208,62 @@ mod tests {
         let (ticks, predecessors) = labelled(&network, 0, 863_950);
         assert_eq!(ticks, [863_950, 864_000, 864_001]);
         assert_eq!(predecessors, [NO_ARC, 1, 0]);
+    }
+
+    #[test]
+    fn goes_by_the_arrival_with_its_hold() {
+        // Arc 0 is at junction 2 at tick 1, arc 1 at tick 3, and arc 2 at tick 9 by way of
+        // junction 1; each goes on after its hold.
+        for (holds, ticks, arc) in [
+            ([0, 0, 0, 0], [0, 5, 1], 0),
+            ([3, 0, 0, 0], [0, 5, 3], 1),
+            ([2, 0, 0, 0], [0, 5, 3], 0),
+            ([1_200, 1_199, 0, 0], [0, 5, 9], 2),
+            ([8, 6, 0, 0], [0, 5, 9], 0),
+            ([9, 6, 0, 0], [0, 5, 9], 1),
+            ([9, 7, 0, 0], [0, 5, 9], 2),
+            ([1_200, 1_198, 0, 7], [0, 12, 16], 2),
+            ([1_200, 1_199, 7, 7], [0, 12, 23], 2),
+        ] {
+            let network = Network {
+                junctions: 3,
+                fences: &[0],
+                tails: &[0, 0, 1, 0],
+                heads: &[2, 2, 2, 1],
+                lengths: &[1, 3, 4, 5],
+                holds: &holds,
+                speeds: &[36; 4],
+            };
+            let (labels, predecessors) = labelled(&network, 0, 0);
+            assert_eq!(labels, ticks);
+            assert_eq!(predecessors, [NO_ARC, 3, arc]);
+        }
+    }
+
+    #[test]
+    fn leaves_in_the_interval_after_the_hold() {
+        // Junction 1's stop line is reached at 100. The metre from there takes one tick in
+        // the first interval, three in the second and nine in the last.
+        for (hold, ticks) in [
+            (0, [99, 100, 101]),
+            (1, [99, 101, 104]),
+            (97, [99, 197, 200]),
+            (100, [99, 200, 209]),
+            (1_200, [99, 1_300, 1_309]),
+        ] {
+            let network = Network {
+                junctions: 3,
+                fences: &[0, 101, 200],
+                tails: &[0, 1],
+                heads: &[1, 2],
+                lengths: &[1, 1],
+                holds: &[hold, 0],
+                speeds: &[36, 36, 36, 36, 12, 4],
+            };
+            let (labels, predecessors) = labelled(&network, 0, 99);
+            assert_eq!(labels, ticks);
+            assert_eq!(predecessors, [NO_ARC, 0, 1]);
+        }
     }
 
     #[test]
@@ -223,8 +283,13 @@ mod tests {
             speeds: &[36, 18, 40, 20, 36, 201],
             ..TOWN
         };
+        let held = Network {
+            holds: &[0, 0, 1_201],
+            ..TOWN
+        };
         for (network, source, departure, lengths, number) in [
             (&bad, 3, 864_000, (2, 2), 8),
+            (&held, 3, 864_000, (2, 2), 32),
             (&TOWN, 3, 864_000, (2, 2), 9),
             (&TOWN, 2, 864_000, (2, 2), 10),
             (&TOWN, 2, 863_999, (2, 3), 11),

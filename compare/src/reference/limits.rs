@@ -13,6 +13,8 @@ pub const MAX_INTERVALS: usize = 96;
 pub const MAX_ARCS: usize = 640;
 /// In metres.
 pub const MAX_LENGTH: u32 = 100_000;
+/// In ticks.
+pub const MAX_HOLD: u16 = 1_200;
 /// In km/h, which is spans per tick.
 pub const MAX_SPEED: u8 = 200;
 

@@ -64,6 +64,9 @@ pub(super) struct Town<'t> {
     speeds: Vec<u8>,
 }
 
+/// Town files so far have hold 0.
+static NO_HOLDS: [u16; MAX_ARCS] = [0; MAX_ARCS];
+
 impl<'t> Town<'t> {
     pub fn read(text: &'t [u8]) -> Result<Self, LoadRefusal> {
         if text.len() > MAX_TEXT {
@@ -90,6 +93,7 @@ impl<'t> Town<'t> {
             tails: &self.tails,
             heads: &self.heads,
             lengths: &self.lengths,
+            holds: &NO_HOLDS[..self.tails.len()],
             speeds: &self.speeds,
         }
     }

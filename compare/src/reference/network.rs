@@ -1,5 +1,5 @@
 use super::Refusal;
-use super::limits::{DAY, MAX_ARCS, MAX_INTERVALS, MAX_JUNCTIONS, MAX_LENGTH, MAX_SPEED};
+use super::limits::{DAY, MAX_ARCS, MAX_HOLD, MAX_INTERVALS, MAX_JUNCTIONS, MAX_LENGTH, MAX_SPEED};
 
 /// A network as lent tables; the arc count is the length of `tails`.
 #[derive(Clone, Copy, Debug)]
@@ -9,6 +9,8 @@ pub struct Network<'a> {
     pub tails: &'a [u16],
     pub heads: &'a [u16],
     pub lengths: &'a [u32],
+    /// What each arc's stop line adds to an arrival.
+    pub holds: &'a [u16],
     /// One speed per interval, arc by arc.
     pub speeds: &'a [u8],
 }
@@ -27,6 +29,7 @@ pub fn network_check(network: &Network) -> Result<(), Refusal> {
         tails,
         heads,
         lengths,
+        holds,
         speeds,
     } = network;
     let arcs = tails.len();
@@ -34,15 +37,18 @@ pub fn network_check(network: &Network) -> Result<(), Refusal> {
     Refusal::JUNCTION_COUNT.unless((1..=MAX_JUNCTIONS).contains(&junctions))?;
     check_fence_count(fences)?;
     Refusal::ARC_COUNT.unless(arcs <= MAX_ARCS)?;
-    let as_long =
-        heads.len() == arcs && lengths.len() == arcs && speeds.len() == arcs * fences.len();
+    let as_long = heads.len() == arcs
+        && lengths.len() == arcs
+        && holds.len() == arcs
+        && speeds.len() == arcs * fences.len();
     Refusal::TABLE_LENGTHS.unless(as_long)?;
     check_fences(fences)?;
     check_ends(junctions, tails, heads)?;
     lengths
         .iter()
         .try_for_each(|&length| check_length(length))?;
-    check_speeds(speeds)
+    check_speeds(speeds)?;
+    check_holds(holds)
 }
 
 pub(super) fn check_fence_count(fences: &[u32]) -> Result<(), Refusal> {
@@ -74,6 +80,16 @@ pub(super) fn check_speeds(speeds: &[u8]) -> Result<(), Refusal> {
     Refusal::SPEED.unless(fastest <= MAX_SPEED)
 }
 
+fn check_holds(holds: &[u16]) -> Result<(), Refusal> {
+    // As with the speeds.
+    let longest = holds.iter().fold(0, |longest, &hold| hold.max(longest));
+    check_hold(longest.into())
+}
+
+pub(super) fn check_hold(hold: u32) -> Result<(), Refusal> {
+    Refusal::HOLD.unless(hold <= MAX_HOLD.into())
+}
+
 #[cfg(test)]
 mod tests {
     use super::*;
@@ -92,6 +108,7 @@ mod tests {
             tails: &vec![0; arcs],
             heads: &vec![1; arcs],
             lengths: &vec![1; arcs],
+            holds: &vec![1_200; arcs],
             speeds: &vec![200; arcs * fences.len()],
         })
     }
@@ -116,12 +133,15 @@ mod tests {
     fn refuses_tables_of_unequal_length() {
         let heads = [1, 2, 2, 1];
         let lengths = [50, 100, 50, 50];
+        let holds = [0; 4];
         let speeds = [36; 7];
         for shift in [2, 4] {
             let heads = &heads[..shift];
             let lengths = &lengths[..shift];
+            let holds = &holds[..shift];
             assert_eq!(refused(Network { heads, ..TOWN }), 4);
             assert_eq!(refused(Network { lengths, ..TOWN }), 4);
+            assert_eq!(refused(Network { holds, ..TOWN }), 4);
         }
         for count in [5, 7] {
             let speeds = &speeds[..count];
@@ -150,7 +170,7 @@ mod tests {
     }
 
     #[test]
-    fn refuses_lengths_and_speeds_out_of_range() {
+    fn refuses_values_out_of_range() {
         for (length, number) in [(0, 7), (1, 0), (100_000, 0), (100_001, 7)] {
             let lengths = &[50, 100, length];
             assert_eq!(refused(Network { lengths, ..TOWN }), number);
@@ -158,6 +178,14 @@ mod tests {
         for (speed, number) in [(0, 0), (200, 0), (201, 8), (255, 8)] {
             let speeds = &[36, 18, 40, 20, 36, speed];
             assert_eq!(refused(Network { speeds, ..TOWN }), number);
+        }
+        for (hold, number) in [(0, 0), (1, 0), (1_200, 0), (1_201, 32), (65_535, 32)] {
+            for place in 0..3 {
+                let mut holds = [1_200; 3];
+                holds[place] = hold;
+                let holds = &holds;
+                assert_eq!(refused(Network { holds, ..TOWN }), number);
+            }
         }
     }
 
@@ -170,6 +198,7 @@ mod tests {
             tails,
             heads: &[9],
             lengths: &[0],
+            holds: &[1_201],
             speeds: &[201],
         };
         assert_eq!(refused(network), 1);
@@ -188,6 +217,8 @@ mod tests {
         network.lengths = &[1];
         assert_eq!(refused(network), 8);
         network.speeds = &[200];
+        assert_eq!(refused(network), 32);
+        network.holds = &[1_200];
         assert_eq!(refused(network), 0);
     }
 
@@ -199,5 +230,11 @@ mod tests {
             ..TOWN
         };
         assert_eq!(refused(network), 6);
+        let network = Network {
+            holds: &[1_201, 0, 0],
+            speeds: &[36, 18, 40, 20, 36, 201],
+            ..TOWN
+        };
+        assert_eq!(refused(network), 8);
     }
 }

@@ -29,6 +29,7 @@ impl Refusal {
     pub const TABLE_TOO_SHORT: Self = Self(28);
     pub const DEPARTURE_COUNT: Self = Self(30);
     pub const SHEET_LENGTHS: Self = Self(31);
+    pub const HOLD: Self = Self(32);
     pub const DEPARTURE_INTERVAL: Self = Self(46);
 
     /// Refuses unless the condition holds.

@@ -67,10 +67,10 @@ mod tests {
     use super::*;
     use crate::inputs::examples::TOWN;
 
-    fn found(source: u32, departure: u32, destination: u32) -> (u32, Vec<u16>) {
-        let reached = reach(&TOWN, source, departure, destination).expect("reached");
+    fn found(network: &Network, source: u32, departure: u32, destination: u32) -> (u32, Vec<u16>) {
+        let reached = reach(network, source, departure, destination).expect("reached");
         let mut arcs = [7; 3];
-        let count = route(&TOWN, source, departure, destination, &mut arcs).expect("accepted");
+        let count = route(network, source, departure, destination, &mut arcs).expect("accepted");
         let (arcs, behind) = arcs.split_at(count as usize);
         assert!(behind.iter().all(|&arc| arc == 7));
         (reached.label, arcs.to_vec())
@@ -78,13 +78,24 @@ mod tests {
 
     #[test]
     fn follows_predecessors() {
-        assert_eq!(found(0, 10, 2), (100, vec![1]));
-        assert_eq!(found(0, 100, 2), (250, vec![0, 2]));
+        assert_eq!(found(&TOWN, 0, 10, 2), (100, vec![1]));
+        assert_eq!(found(&TOWN, 0, 100, 2), (250, vec![0, 2]));
+    }
+
+    #[test]
+    fn goes_around_a_hold() {
+        for (hold, route) in [(10, (110, vec![1])), (11, (110, vec![0, 2]))] {
+            let network = Network {
+                holds: &[0, hold, 0],
+                ..TOWN
+            };
+            assert_eq!(found(&network, 0, 10, 2), route);
+        }
     }
 
     #[test]
     fn goes_from_the_source_to_itself_by_no_arc() {
-        assert_eq!(found(2, 863_999, 2), (863_999, vec![]));
+        assert_eq!(found(&TOWN, 2, 863_999, 2), (863_999, vec![]));
     }
 
     #[test]
@@ -93,8 +104,13 @@ mod tests {
             junctions: 2,
             ..TOWN
         };
+        let held = Network {
+            holds: &[1_201, 0, 0],
+            ..TOWN
+        };
         for (network, source, departure, destination, number) in [
             (&bad, 3, 864_000, 3, 6),
+            (&held, 3, 864_000, 3, 32),
             (&TOWN, 3, 864_000, 3, 9),
             (&TOWN, 0, 864_000, 3, 10),
             (&TOWN, 2, 100, 3, 12),

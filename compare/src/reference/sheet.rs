@@ -97,6 +97,17 @@ mod tests {
     }
 
     #[test]
+    fn counts_a_hold_to_the_journey() {
+        let network = Network {
+            holds: &[5, 0, 0],
+            ..TOWN
+        };
+        let (labels, figures) = filled(&network, 0, &[100, 10]);
+        assert_eq!(labels, [100, 205, 255, 10, 65, 100]);
+        assert_eq!(figures, [2, 0, 0, 0, 2, 55, 105, 160, 2, 90, 155, 245]);
+    }
+
+    #[test]
     fn shows_nothing_of_an_unreached_junction() {
         let (labels, figures) = filled(&TOWN, 1, &[863_999, 0]);
         assert_eq!(labels, [UNREACHED, 863_999, 864_049, UNREACHED, 0, 50]);
@@ -113,6 +124,7 @@ mod tests {
             tails: &[0],
             heads: &[1],
             lengths: &[101],
+            holds: &[0],
             speeds: &[0, 36, 0],
         };
         let (labels, figures) = filled(&network, 0, &[110, 109, 863_999, 0]);
@@ -137,10 +149,15 @@ mod tests {
             lengths: &[50, 0, 50],
             ..TOWN
         };
+        let held = Network {
+            holds: &[0, 1_201, 0],
+            ..TOWN
+        };
         let late = [0, 864_000];
         let many = [864_000; 97];
         for (network, source, departures, lengths, number) in [
             (&bad, 3, &many[..], (2, 2), 7),
+            (&held, 3, &many, (2, 2), 32),
             (&TOWN, 3, &many, (2, 2), 9),
             (&TOWN, 3, &[], (0, 12), 9),
             (&TOWN, 2, &many, (291, 12), 30),

@@ -1,19 +1,11 @@
 //! The interval that Arc arrival is given, and the one it gives back: both sides of
 //! fences, of midnight and of the last tick.
 
-use compare::comparison::Outcome;
-use compare::comparison::answers;
-use compare::reference::Refusal;
+use super::{Moment, arc_number, arrival, lone_arc};
 
-use super::arrival;
-
-/// The number on which both agree, 0 for an answer.
-fn number((departure, interval): (u32, u32), length: u32, fences: &[u32], speeds: &[u8]) -> u32 {
-    match answers::arc_arrival(departure, interval, length, fences, speeds) {
-        Ok(Outcome::Refused(Refusal(number))) => number,
-        Ok(_) => 0,
-        Err(difference) => panic!("{difference}"),
-    }
+/// The number for an arc without a hold.
+fn number(departure: Moment, length: u32, fences: &[u32], speeds: &[u8]) -> u32 {
+    arc_number(&lone_arc(length, 0, fences, speeds), departure)
 }
 
 /// Every interval of a plan, the ones after its last, and ones that would be the right

@@ -10,23 +10,25 @@ use mir.Syntax.{w32}
 use mir.Val.{Fits}
 use lib.Dec.{eqb}
 use lib.ListN.{length}
-use borrow.Author.Tests.{not-false, eqb-true, ltb-false, eq-eqb, le-ltb}
+use borrow.Author.Tests.{not-false, eqb-true, ltb-false, leb-true, eq-eqb, le-ltb, le-leb}
 use Rattle.model.specs.Ticks.{last, arrivedAt}
 use Rattle.model.specs.declared.tick.Tick.{Tick}
 use Rattle.model.specs.declared.tick.Arrival.{Arrival}
 use Rattle.model.specs.declared.tick.Arrival.the-variants.{At}
-use Rattle.model.specs.Flow.{spansOf, arrival}
+use Rattle.model.specs.Limits.{maxSpeed, maxHold}
+use Rattle.model.specs.Flow.{spansOf}
+use Rattle.model.specs.Holds.{arrivalWithHold}
 use Rattle.model.specs.Intervals.{speedAt, tickAndInterval?, contains?}
-use Rattle.model.specs.Rules.{AllKept, replied, firstBroken, countKeeps, fencesKeep, lengthKeeps}
+use Rattle.model.specs.Rules.{AllKept, replied, firstBroken, countKeeps, fencesKeep, lengthKeeps, holdKeeps}
 use Rattle.model.proofs.Containing.{interval-contains, test-contains, contains-test}
-use Rattle.model.proofs.Rules.{kept-replies, replies-kept, kept-count, count-kept, kept-length, length-kept, kept-speeds, speeds-kept, fences-kept, kept-fences}
+use Rattle.model.proofs.Rules.{kept-replies, replies-kept, kept-count, count-kept, kept-length, length-kept, kept-within, within-kept, fences-kept, kept-fences}
 use Rattle.model.proofs.WithInterval.{arrived-at}
 use Rattle.driving.specs.ArcKept.{ArcKept}
 use Rattle.driving.specs.InPlan.{InPlan}
 use Rattle.arriving.specs.ArcArrival.{arcRules, arcArrival, ArcAccepted, ArcRepliesWhenAccepted, ArcGivesInterval}
 
-module _ (departure interval metres : ℕ) (fences speeds : List ℕ) where
-  pub kept-accepted : AllKept (arcRules departure interval metres fences speeds) → ArcAccepted departure interval metres fences speeds
+module _ (departure interval metres hold : ℕ) (fences speeds : List ℕ) where
+  pub kept-accepted : AllKept (arcRules departure interval metres hold fences speeds) → ArcAccepted departure interval metres hold fences speeds
   kept-accepted kept =
       let count = kept-count fences (kept .0) in
       let size = kept-length metres (not-false (lengthKeeps metres) (kept .1 .1 .1 .0)) in
@@ -37,33 +39,36 @@ module _ (departure interval metres : ℕ) (fences speeds : List ℕ) where
         fences-kept = fences-kept fences (not-false (fencesKeep fences) (kept .1 .1 .0));
         some-length = size .0;
         length-fits = size .1;
-        speed-fits = kept-speeds speeds (kept .1 .1 .1 .1 .0);
-        in-time = ltb-false last departure (kept .1 .1 .1 .1 .1 .0);
-        in-interval = test-contains fences interval departure (not-false (contains? fences interval departure) (kept .1 .1 .1 .1 .1 .1 .0));
+        speed-fits = kept-within maxSpeed speeds (kept .1 .1 .1 .1 .0);
+        hold-fits = leb-true hold maxHold (not-false (holdKeeps hold) (kept .1 .1 .1 .1 .1 .0));
+        in-time = ltb-false last departure (kept .1 .1 .1 .1 .1 .1 .0);
+        in-interval = test-contains fences interval departure (not-false (contains? fences interval departure) (kept .1 .1 .1 .1 .1 .1 .1 .0));
       }
 
-  pub accepted-kept : ArcAccepted departure interval metres fences speeds → AllKept (arcRules departure interval metres fences speeds)
+  pub accepted-kept : ArcAccepted departure interval metres hold fences speeds → AllKept (arcRules departure interval metres hold fences speeds)
   accepted-kept a =
       let count = count-kept fences (a .some-interval) (a .intervals-fit) in
       let as-many = eq-eqb (length speeds) (length fences) (a .as-many) in
       let fences-keep = kept-fences fences (a .fences-kept) in
       let length-keeps = length-kept metres (a .some-length) (a .length-fits) in
+      let speeds-keep = within-kept maxSpeed speeds (a .speed-fits) in
+      let hold-keeps = le-leb hold maxHold (a .hold-fits) in
       let in-time = le-ltb last departure (a .in-time) in
       let contained = contains-test fences interval departure (a .in-interval) in
-      (count, (ap not as-many, (ap not fences-keep, (ap not length-keeps, (speeds-kept speeds (a .speed-fits), (in-time, (ap not contained, tt)))))))
+      (count, (ap not as-many, (ap not fences-keep, (ap not length-keeps, (speeds-keep, (ap not hold-keeps, (in-time, (ap not contained, tt))))))))
 
   abbrev reply : Option (ℕ × ℕ)
-  reply = tickAndInterval? fences (arrival (speedAt fences speeds) (spansOf metres) departure)
+  reply = tickAndInterval? fences (arrivalWithHold (speedAt fences speeds) (spansOf metres) hold departure)
 
-  pub by-rules : arcArrival departure interval metres fences speeds ≡ firstBroken (arcRules departure interval metres fences speeds) reply
+  pub by-rules : arcArrival departure interval metres hold fences speeds ≡ firstBroken (arcRules departure interval metres hold fences speeds) reply
   unfolding arcArrival
   by-rules = refl
 
-  replies : AllKept (arcRules departure interval metres fences speeds) → arcArrival departure interval metres fences speeds ≡ replied reply
-  replies kept = by-rules ∙ kept-replies (arcRules departure interval metres fences speeds) reply kept
+  replies : AllKept (arcRules departure interval metres hold fences speeds) → arcArrival departure interval metres hold fences speeds ≡ replied reply
+  replies kept = by-rules ∙ kept-replies (arcRules departure interval metres hold fences speeds) reply kept
 
   -- The engine is handed the departure's interval.
-  module _ (kept : AllKept (arcRules departure interval metres fences speeds)) where
+  module _ (kept : AllKept (arcRules departure interval metres hold fences speeds)) where
     arc-kept : ArcKept departure interval metres fences speeds
     arc-kept =
         let accepted = kept-accepted kept in
@@ -77,7 +82,7 @@ module _ (departure interval metres : ℕ) (fences speeds : List ℕ) where
         }
 
     pub engine-replies : {driven told : Arrival} → (ArcKept departure interval metres fences speeds → arrivedAt driven ≡ reply) → driven ≡ told →
-        replied (arrivedAt told) ≡ arcArrival departure interval metres fences speeds
+        replied (arrivedAt told) ≡ arcArrival departure interval metres hold fences speeds
     engine-replies promise same = ap (λ a. replied (arrivedAt a)) (sym same) ∙ ap replied (promise arc-kept) ∙ sym (replies kept)
 
 -- The arrival's interval is one of the plan's, which has few.
@@ -87,16 +92,16 @@ interval-fits fences kept in-plan same = omega (arith, rw same at in-plan, kept-
 
 pub arc-replies-when-accepted : ArcRepliesWhenAccepted
 unfolding arcArrival
-arc-replies-when-accepted departure interval metres fences speeds r = (
+arc-replies-when-accepted departure interval metres hold fences speeds r = (
   (λ e.
-      let kept = replies-kept (arcRules departure interval metres fences speeds) (reply departure interval metres fences speeds) r e in
-      let same = replies departure interval metres fences speeds kept in
-      (kept-accepted departure interval metres fences speeds kept, cc)),
-  (λ h. replies departure interval metres fences speeds (accepted-kept departure interval metres fences speeds (h .0)) ∙ ap replied (sym (h .1))),
+      let kept = replies-kept (arcRules departure interval metres hold fences speeds) (reply departure interval metres hold fences speeds) r e in
+      let same = replies departure interval metres hold fences speeds kept in
+      (kept-accepted departure interval metres hold fences speeds kept, cc)),
+  (λ h. replies departure interval metres hold fences speeds (accepted-kept departure interval metres hold fences speeds (h .0)) ∙ ap replied (sym (h .1))),
 )
 
 pub arc-gives-interval : ArcGivesInterval
-arc-gives-interval departure interval metres fences speeds tick arrives-in e k =
-    let (accepted, is-reply) = arc-replies-when-accepted departure interval metres fences speeds (some (tick, arrives-in)) .0 e in
-    let (at, interval-is, in-time) = arrived-at fences tick arrives-in (arrival (speedAt fences speeds) (spansOf metres) departure) is-reply in
+arc-gives-interval departure interval metres hold fences speeds tick arrives-in e k =
+    let (accepted, is-reply) = arc-replies-when-accepted departure interval metres hold fences speeds (some (tick, arrives-in)) .0 e in
+    let (at, interval-is, in-time) = arrived-at fences tick arrives-in (arrivalWithHold (speedAt fences speeds) (spansOf metres) hold departure) is-reply in
     rw (interval-is, ← at) (interval-contains fences (accepted .fences-kept) (accepted .some-interval) k tick)

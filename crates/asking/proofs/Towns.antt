@@ -1,9 +1,10 @@
 -- A text's first fault is the answer, or the town that it describes is asked. Load into tables with room for every town refuses just
 -- that fault, and otherwise the town's network, which Network check accepts, stands at the tables' start.
-use Prim.Native.Nat.{ℕ}
+use Prim.Native.Nat.{ℕ, _≤_}
 use mathlib.Core.Path.{_≡_, refl, sym, ap, _∙_}
 use mathlib.Core.List.{List}
 use native.Mathlib.Omega.{arith}
+use Rattle.model.specs.Limits.{maxArcs}
 use Rattle.model.specs.Network.{Network}
 use Rattle.model.specs.NetworkRules.{networkCheck}
 use Rattle.model.specs.Rules.{replied}
@@ -37,6 +38,7 @@ module _ {Reply : Type 0} (answer : Network → Reading Reply) (text : List ℕ)
 
     -- What the tables then hold is asked.
     pub record TownLoaded (reply : Counts) (held : Tables) : Type 0 where
+      pub few-arcs : reply .arcs ≤ maxArcs
       pub long : LongEnough reply held
       pub checked : networkCheck (networkAt reply held) ≡ replied tt
       pub answers : inTown answer text ≡ answer (networkAt reply held)
@@ -47,6 +49,7 @@ module _ {Reply : Type 0} (answer : Network → Reading Reply) (text : List ℕ)
         let found = load-accepts-when-described text bytes roomyTables reply .0 (sym e) in
         let same = described-town (found .1) in
         record {
+          few-arcs = stands .few-arcs;
           long = stands .long;
           checked = rw (stands .is-network, same) (described-is-accepted text (found .0) (found .1));
           answers = rw (stands .is-network, same) (answer-described (found .1));

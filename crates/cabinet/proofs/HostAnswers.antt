@@ -140,12 +140,12 @@ host-refuses-only text bytes source departure destination number e = go (loads t
 pub host-has-room : HostHasRoom
 host-has-room text bytes source departure destination number e = go (host-refuses-only text bytes source departure destination number e)
   where
-    go : {n : ℕ} → HostRefusal n → (n ≡ 28 → ⊥) × (n ≡ 14 → ⊥) × (1 ≤ n → n ≤ 8 → ⊥)
-    go (HostRefusal.text n low high) = (λ e. omega arith, λ e. omega arith, λ some few. omega arith)
-    go HostRefusal.source = (λ e. omega arith, λ e. omega arith, λ some few. omega arith)
-    go HostRefusal.departure = (λ e. omega arith, λ e. omega arith, λ some few. omega arith)
-    go HostRefusal.destination = (λ e. omega arith, λ e. omega arith, λ some few. omega arith)
-    go HostRefusal.unreached = (λ e. omega arith, λ e. omega arith, λ some few. omega arith)
+    go : {n : ℕ} → HostRefusal n → (n ≡ 28 → ⊥) × (n ≡ 14 → ⊥) × (1 ≤ n → n ≤ 8 → ⊥) × (n ≡ 32 → ⊥)
+    go (HostRefusal.text n low high) = (λ e. omega arith, λ e. omega arith, λ some few. omega arith, λ e. omega arith)
+    go HostRefusal.source = (λ e. omega arith, λ e. omega arith, λ some few. omega arith, λ e. omega arith)
+    go HostRefusal.departure = (λ e. omega arith, λ e. omega arith, λ some few. omega arith, λ e. omega arith)
+    go HostRefusal.destination = (λ e. omega arith, λ e. omega arith, λ some few. omega arith, λ e. omega arith)
+    go HostRefusal.unreached = (λ e. omega arith, λ e. omega arith, λ some few. omega arith, λ e. omega arith)
 
 pub host-answers-earliest : HostAnswersEarliest
 host-answers-earliest text bytes source departure destination tick = (forward, back)

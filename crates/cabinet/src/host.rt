@@ -1,5 +1,7 @@
 // Host question: the destination's label in the town that a text describes, or a refusal's code.
 ghost use mathlib.Core.Path.{_≡_};
+ghost use Prim.Native.Nat.{_≤_};
+ghost use Rattle.model.specs.Limits.{maxArcs};
 ghost use Rattle.townfile.specs.Load.{counts, LongEnough, networkAt};
 ghost use Rattle.townfile.specs.Lent.{lentTables, tablesIn};
 ghost use Rattle.cabinet.specs.Host.{labelOrCode, hostAnswer};
@@ -28,10 +30,13 @@ fn label_in_tables(
     departure: u32,
     destination: u32,
 ) -> u32
+    requires { ⌜ arcs ≤ maxArcs ⌝ }
     requires { ⌜ LongEnough (counts junctions intervals arcs) (tablesIn fences tails heads lengths speeds) ⌝ }
     ensures { λ r. ⌜ r ≡ labelOrCode (networkAt (counts junctions intervals arcs) (lentTables fences tails heads lengths speeds)) source departure destination ⌝ }
 {
     let speed_count = arcs * intervals;
+    // Town files have hold 0.
+    let holds = [0u16; MAX_ARCS];
     let mut list = [0u16; MAX_JUNCTIONS];
     match route(
         junctions,
@@ -39,6 +44,7 @@ fn label_in_tables(
         &tails[..arcs],
         &heads[..arcs],
         &lengths[..arcs],
+        &holds[..arcs],
         &speeds[..speed_count],
         source,
         Tick { number: departure },

@@ -1,17 +1,14 @@
 -- A scan of a table from its start: what the test says of the entries that are left is what it says of all.
-use Prim.Native.Nat.{ℕ, _+_, _<_, _≤_, max}
-use mathlib.Core.Path.{_≡_, refl, sym, _∙_}
-use mathlib.Core.Bool.{Bool, true, false, _&&_, and-true}
+use Prim.Native.Nat.{ℕ, _+_, _<_, _≤_}
+use mathlib.Core.Path.{_≡_, refl}
+use mathlib.Core.Bool.{Bool, true, false}
 use mathlib.Core.List.{List, [], _∷_}
 use native.Mathlib.Numerals.{add-one}
-use mathlib.Core.Logic.{inl, inr}
-use lib.Dec.{leb}
 use lib.ListN.{length, getD, drop, drop-of-length-le}
 use lib.Seq.{drop-cons}
 use native.Mathlib.Omega.{arith}
-use borrow.Author.Tests.{lt-ltb, le-ltb, le-leb, lt-leb, ne-eqb}
+use borrow.Author.Tests.{lt-ltb, le-ltb, ne-eqb}
 use Rattle.model.specs.Ticks.{day}
-use Rattle.model.proofs.Tests.{leb-cases}
 use Rattle.model.specs.Rules.{every, riseFrom, fencesKeep}
 
 module _ (test : ℕ → Bool) (xs : List ℕ) (i : ℕ) (so-far : every test (drop i xs) ≡ every test xs) where
@@ -26,25 +23,6 @@ module _ (test : ℕ → Bool) (xs : List ℕ) (i : ℕ) (so-far : every test (d
   pub every-ends : length xs ≤ i → true ≡ every test xs
   unfolding every
   every-ends h = rw (drop-of-length-le xs h) at so-far
-
--- A scan that keeps the highest entry so far: it and the entries that are left are within a limit where all are.
-max-within : (a b limit : ℕ) (rest : Bool) → (leb (max a b) limit && rest) ≡ (leb a limit && (leb b limit && rest))
-max-within a b limit rest = elim (leb-cases a limit) [
-  | inl within ↦ elim (leb-cases b limit) [
-    | inl within′ ↦ rw (within .0, within′ .0, le-leb (max a b) limit (omega (arith, within .1, within′ .1)))
-    | inr above ↦ rw (within .0, above .0, lt-leb (max a b) limit (omega (arith, above .1)))
-  ]
-  | inr above ↦ rw (above .0, lt-leb (max a b) limit (omega (arith, above .1)))
-]
-
-module _ (limit : ℕ) (xs : List ℕ) (highest i : ℕ) (so-far : (leb highest limit && every (λ x. leb x limit) (drop i xs)) ≡ every (λ x. leb x limit) xs) where
-  pub highest-goes-on : i < length xs → (leb (max highest (getD xs i 0)) limit && every (λ x. leb x limit) (drop (i + 1) xs)) ≡ every (λ x. leb x limit) xs
-  unfolding every
-  highest-goes-on h = max-within highest (getD xs i 0) limit _ ∙ rw add-one (rw (drop-cons xs i 0 h, every) at so-far)
-
-  pub highest-ends : length xs ≤ i → leb highest limit ≡ every (λ x. leb x limit) xs
-  unfolding every
-  highest-ends h = sym (and-true (leb highest limit)) ∙ (rw (drop-of-length-le xs h) at so-far)
 
 -- The fences: the first of them, and then from one on with the one before it.
 pub none-keep : (fences : List ℕ) → length fences ≡ 0 → true ≡ fencesKeep fences

@@ -1,3 +1,4 @@
+pub mod Highest
 pub mod NetworkCheck
 pub mod Question
 pub mod code

@@ -1,4 +1,5 @@
--- "1 to 8; 9, source not below the junction count; 10, departure 864,000 or above": what Labels and Route ask first.
+-- "1 to 8; 9, source not below the junction count; 10, departure 864,000 or above": what Labels and Route ask first. By document 02, order 5, 32
+-- stands directly after 8, with the network's own.
 use Prim.Native.Nat.{ℕ, _<_}
 use mathlib.Core.Bool.{not}
 use mathlib.Core.List.{List, [], _∷_, _++_}

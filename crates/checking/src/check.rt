@@ -4,9 +4,12 @@ ghost use mathlib.Core.Bool.{_&&_};
 ghost use Prim.Native.Nat.{_≤_};
 ghost use lib.ListN.{length};
 ghost use Rattle.model.specs.Limits.{maxArcs, maxIntervals};
+ghost use Rattle.model.specs.Rules.{every, holdKeeps};
 ghost use Rattle.model.specs.NetworkRules.{junctionsKeep, tablesAgree, endsKeep};
 ghost use Rattle.checking.specs.code.Ends.{arcEndsKeep};
+use crate::highest::highest_u16;
 use crate::rule::from_1_to;
+use model::limit::MAX_HOLD;
 use model::limit::MAX_JUNCTIONS;
 
 pub(crate) fn junction_count_keeps(junctions: u32) -> bool
@@ -21,15 +24,19 @@ pub(crate) fn tables_agree(
     tails: &[u16],
     heads: &[u16],
     lengths: &[u32],
+    holds: &[u16],
     speeds: &[u8],
 ) -> bool
     requires { ⌜ (length (now fences) ≤ maxIntervals) × (length (now tails) ≤ maxArcs) ⌝ }
-    ensures { λ r. ⌜ r ≡ tablesAgree (now (fences .entry)) (now (tails .entry)) (now (heads .entry)) (now (lengths .entry)) (now (speeds .entry)) ⌝ }
+    ensures { λ r. ⌜ r ≡ tablesAgree (now (fences .entry)) (now (tails .entry)) (now (heads .entry)) (now (lengths .entry)) (now (holds .entry)) (now (speeds .entry)) ⌝ }
 {
     if heads.len() != tails.len() {
         return false;
     }
     if lengths.len() != tails.len() {
+        return false;
+    }
+    if holds.len() != tails.len() {
         return false;
     }
     speeds.len() == tails.len() * fences.len()
@@ -64,4 +71,10 @@ pub(crate) fn ends_keep(junctions: u32, tails: &[u16], heads: &[u16]) -> bool
         a += 1;
     }
     kept
+}
+
+pub(crate) fn holds_keep(holds: &[u16]) -> bool
+    ensures { λ r. ⌜ r ≡ every holdKeeps (now (holds .entry)) ⌝ }
+{
+    highest_u16(holds) as u32 <= MAX_HOLD
 }

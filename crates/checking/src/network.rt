@@ -4,6 +4,7 @@ ghost use Rattle.model.specs.NetworkRules.{networkCheck};
 ghost use Rattle.model.specs.Lent.{lentNetwork};
 ghost use Rattle.checking.specs.NetworkCheck.{outcomeOf};
 use crate::check::ends_keep;
+use crate::check::holds_keep;
 use crate::check::junction_count_keeps;
 use crate::check::tables_agree;
 use crate::rule::fences_keep;
@@ -25,9 +26,10 @@ pub fn network_check(
     tails: &[u16],
     heads: &[u16],
     lengths: &[u32],
+    holds: &[u16],
     speeds: &[u8],
 ) -> NetworkCheck
-    ensures { λ r. ⌜ outcomeOf r ≡ networkCheck (lentNetwork junctions fences tails heads lengths speeds) ⌝ }
+    ensures { λ r. ⌜ outcomeOf r ≡ networkCheck (lentNetwork junctions fences tails heads lengths holds speeds) ⌝ }
 {
     if !junction_count_keeps(junctions) {
         return NetworkCheck::Refused(Refusal::JunctionCount);
@@ -38,7 +40,7 @@ pub fn network_check(
     if MAX_ARCS < tails.len() {
         return NetworkCheck::Refused(Refusal::ArcCount);
     }
-    if !tables_agree(fences, tails, heads, lengths, speeds) {
+    if !tables_agree(fences, tails, heads, lengths, holds, speeds) {
         return NetworkCheck::Refused(Refusal::TableLength);
     }
     if !fences_keep(fences) {
@@ -52,6 +54,9 @@ pub fn network_check(
     }
     if !speeds_keep(speeds) {
         return NetworkCheck::Refused(Refusal::Speed);
+    }
+    if !holds_keep(holds) {
+        return NetworkCheck::Refused(Refusal::Hold);
     }
     NetworkCheck::Accepted
 }

@@ -14,11 +14,12 @@ pub fn question_check(
     tails: &[u16],
     heads: &[u16],
     lengths: &[u32],
+    holds: &[u16],
     speeds: &[u8],
     source: u32,
     tick: u32,
 ) -> NetworkCheck
-    ensures { λ r. ⌜ outcomeOf r ≡ questionCheck (lentNetwork junctions fences tails heads lengths speeds) source tick ⌝ }
+    ensures { λ r. ⌜ outcomeOf r ≡ questionCheck (lentNetwork junctions fences tails heads lengths holds speeds) source tick ⌝ }
 {
     if let NetworkCheck::Refused(refusal) = network_check(
         junctions,
@@ -26,6 +27,7 @@ pub fn question_check(
         tails,
         heads,
         lengths,
+        holds,
         speeds,
     ) {
         return NetworkCheck::Refused(refusal);

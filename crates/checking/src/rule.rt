@@ -1,10 +1,10 @@
 // The tests of the rules that an arc's tables share with a network's. Each is the definition's own test, of the whole table.
 ghost use mathlib.Core.Path.{_≡_};
-ghost use Prim.Native.Nat.{max};
 ghost use mathlib.Core.Bool.{_&&_};
 ghost use lib.Dec.{leb, ltb};
 ghost use lib.ListN.{drop};
 ghost use Rattle.model.specs.Rules.{every, riseFrom, countKeeps, fencesKeep, lengthKeeps, speedKeeps};
+use crate::highest::highest_u8;
 use model::limit::MAX_INTERVALS;
 use model::limit::MAX_LENGTH;
 use model::limit::MAX_SPEED;
@@ -76,21 +76,8 @@ pub fn lengths_keep(lengths: &[u32]) -> bool
     true
 }
 
-fn greater(a: u8, b: u8) -> u8
-    ensures { λ r. ⌜ r ≡ max a b ⌝ }
-{
-    if a < b { b } else { a }
-}
-
-// The highest speed is looked for without a branch, so that the compiler can compare many speeds at once.
 pub fn speeds_keep(speeds: &[u8]) -> bool
     ensures { λ r. ⌜ r ≡ every speedKeeps (now (speeds .entry)) ⌝ }
 {
-    let mut highest = 0;
-    let mut i = 0;
-    while i < speeds.len() {
-        highest = greater(highest, speeds[i]);
-        i += 1;
-    }
-    highest <= MAX_SPEED
+    highest_u8(speeds) <= MAX_SPEED
 }

@@ -14,7 +14,7 @@ use mir.Syntax.{w32}
 use mir.Val.{Fits}
 use lib.Dec.{ltb}
 use lib.ListN.{length, getD, List·getD-eq-default}
-use borrow.Author.Tests.{le-leb, le-ltb, lt-ltb}
+use borrow.Author.Tests.{le-ltb, lt-ltb}
 use Rattle.model.specs.Ticks.{day, last, never}
 use Rattle.model.specs.Flow.{spansOf, arrival, ticksFor, Piece}
 use Rattle.model.specs.Intervals.{timeOfDay, passed, intervalOf, intervalAfter, speedAt, tickAndInterval?}
@@ -22,6 +22,7 @@ use Rattle.model.proofs.Entries.{getD-inside}
 use Rattle.model.proofs.Tests.{ltb-cases}
 use Rattle.model.proofs.Pieces.{ticks-within, never-from-last}
 use Rattle.model.proofs.Passed.{passed-at-most}
+use Rattle.model.proofs.WithInterval.{told}
 use Rattle.model.proofs.IntervalPieces.{counted-at-fence, time-on, same-interval, interval-at-end}
 use Rattle.driving.specs.ArcKept.{ArcKept}
 use Rattle.driving.specs.Tries.{endOf, coversFrom, Try, LeftOver}
@@ -155,7 +156,7 @@ module _ {departure interval metres : ℕ} {fences speeds : List ℕ} where
         answers {number} in-interval =
             let by-last : midnight + arrives ≤ last = omega (arith, by-end h, end-here, rest .forward, rest .in-time) in
             let same : tick ≡ midnight + arrives = omega arith in
-            rw (← arrives-here, le-leb (midnight + arrives) last by-last, in-interval, same)
+            rw (← arrives-here) (told fences same by-last (sym in-interval))
 
         pub arrives-within : arrives < end → some (tick, k) ≡ tickAndInterval? fences total
         arrives-within before =

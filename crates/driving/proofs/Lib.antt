@@ -1,3 +1,4 @@
 pub mod Driving
 pub mod FenceCount
+pub mod Holds
 pub mod Tries

@@ -29,11 +29,12 @@ pub extern "C" fn exports_network_check(
     tails: &[u16],
     heads: &[u16],
     lengths: &[u32],
+    holds: &[u16],
     speeds: &[u8],
 ) -> u32
-    ensures { λ r. ⌜ r ≡ numberOr0 (networkCheck (lentNetwork junctions fences tails heads lengths speeds)) ⌝ }
+    ensures { λ r. ⌜ r ≡ numberOr0 (networkCheck (lentNetwork junctions fences tails heads lengths holds speeds)) ⌝ }
 {
-    match network_check(junctions, fences, tails, heads, lengths, speeds) {
+    match network_check(junctions, fences, tails, heads, lengths, holds, speeds) {
         NetworkCheck::Accepted => 0,
         NetworkCheck::Refused(refusal) => refusal.number(),
     }
@@ -45,12 +46,20 @@ pub extern "C" fn exports_arc_arrival(
     departure: u32,
     interval: u32,
     metres: u32,
+    hold: u32,
     fences: &[u32],
     speeds: &[u8],
 ) -> u64
-    ensures { λ r. ⌜ r ≡ arrivalCode (arcArrival departure interval metres (now (fences .entry)) (now (speeds .entry))) ⌝ }
+    ensures { λ r. ⌜ r ≡ arrivalCode (arcArrival departure interval metres hold (now (fences .entry)) (now (speeds .entry))) ⌝ }
 {
-    match arc_arrival(Tick { number: departure }, interval, metres, fences, speeds) {
+    match arc_arrival(
+        Tick { number: departure },
+        interval,
+        metres,
+        hold,
+        fences,
+        speeds,
+    ) {
         ArcArrival::At {
             tick,
             interval: arrives_in,
@@ -68,16 +77,17 @@ pub extern "C" fn exports_labels(
     tails: &[u16],
     heads: &[u16],
     lengths: &[u32],
+    holds: &[u16],
     speeds: &[u8],
     source: u32,
     departure: u32,
     labels: &mut [u32],
     predecessors: &mut [u16],
 ) -> u32
-    ensures answer { λ r. ⌜ r ≡ numberOr0 (labelsAnswer (lentNetwork junctions fences tails heads lengths speeds) source departure (now (labels .entry)) (now (predecessors .entry))) ⌝ }
-    ensures labels { λ _. ⌜ now (labels .exit) ≡ labelsAfter (lentNetwork junctions fences tails heads lengths speeds) source departure (now (labels .entry)) (now (predecessors .entry)) ⌝ }
+    ensures answer { λ r. ⌜ r ≡ numberOr0 (labelsAnswer (lentNetwork junctions fences tails heads lengths holds speeds) source departure (now (labels .entry)) (now (predecessors .entry))) ⌝ }
+    ensures labels { λ _. ⌜ now (labels .exit) ≡ labelsAfter (lentNetwork junctions fences tails heads lengths holds speeds) source departure (now (labels .entry)) (now (predecessors .entry)) ⌝ }
     ensures predecessors { λ _. ⌜ now (predecessors .exit) ≡
-        predecessorsAfter (lentNetwork junctions fences tails heads lengths speeds) source departure (now (labels .entry)) (now (predecessors .entry)) ⌝ }
+        predecessorsAfter (lentNetwork junctions fences tails heads lengths holds speeds) source departure (now (labels .entry)) (now (predecessors .entry)) ⌝ }
 {
     match labelling::labels::labels(
         junctions,
@@ -85,6 +95,7 @@ pub extern "C" fn exports_labels(
         tails,
         heads,
         lengths,
+        holds,
         speeds,
         source,
         Tick { number: departure },
@@ -104,6 +115,7 @@ pub extern "C" fn exports_sheet(
     tails: &[u16],
     heads: &[u16],
     lengths: &[u32],
+    holds: &[u16],
     speeds: &[u8],
     source: u32,
     departures: &[u32],
@@ -111,11 +123,11 @@ pub extern "C" fn exports_sheet(
     figures: &mut [u32],
 ) -> u32
     ensures answer { λ r. ⌜ r ≡
-        numberOr0 (sheetAnswer (lentNetwork junctions fences tails heads lengths speeds) source (now (departures .entry)) (now (labels .entry)) (now (figures .entry))) ⌝ }
+        numberOr0 (sheetAnswer (lentNetwork junctions fences tails heads lengths holds speeds) source (now (departures .entry)) (now (labels .entry)) (now (figures .entry))) ⌝ }
     ensures labels { λ _. ⌜ now (labels .exit) ≡
-        sheetLabelsAfter (lentNetwork junctions fences tails heads lengths speeds) source (now (departures .entry)) (now (labels .entry)) (now (figures .entry)) ⌝ }
+        sheetLabelsAfter (lentNetwork junctions fences tails heads lengths holds speeds) source (now (departures .entry)) (now (labels .entry)) (now (figures .entry)) ⌝ }
     ensures figures { λ _. ⌜ now (figures .exit) ≡
-        sheetFiguresAfter (lentNetwork junctions fences tails heads lengths speeds) source (now (departures .entry)) (now (labels .entry)) (now (figures .entry)) ⌝ }
+        sheetFiguresAfter (lentNetwork junctions fences tails heads lengths holds speeds) source (now (departures .entry)) (now (labels .entry)) (now (figures .entry)) ⌝ }
 {
     match sheet(
         junctions,
@@ -123,6 +135,7 @@ pub extern "C" fn exports_sheet(
         tails,
         heads,
         lengths,
+        holds,
         speeds,
         source,
         departures,
@@ -142,14 +155,15 @@ pub extern "C" fn exports_route(
     tails: &[u16],
     heads: &[u16],
     lengths: &[u32],
+    holds: &[u16],
     speeds: &[u8],
     source: u32,
     departure: u32,
     destination: u32,
     arcs: &mut [u16],
 ) -> u32
-    ensures answer { λ r. ⌜ r ≡ countCode (routeAnswer (lentNetwork junctions fences tails heads lengths speeds) source departure destination (now (arcs .entry))) ⌝ }
-    ensures arcs { λ _. ⌜ now (arcs .exit) ≡ arcsAfter (lentNetwork junctions fences tails heads lengths speeds) source departure destination (now (arcs .entry)) ⌝ }
+    ensures answer { λ r. ⌜ r ≡ countCode (routeAnswer (lentNetwork junctions fences tails heads lengths holds speeds) source departure destination (now (arcs .entry))) ⌝ }
+    ensures arcs { λ _. ⌜ now (arcs .exit) ≡ arcsAfter (lentNetwork junctions fences tails heads lengths holds speeds) source departure destination (now (arcs .entry)) ⌝ }
 {
     match route(
         junctions,
@@ -157,6 +171,7 @@ pub extern "C" fn exports_route(
         tails,
         heads,
         lengths,
+        holds,
         speeds,
         source,
         Tick { number: departure },

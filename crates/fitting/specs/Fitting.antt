@@ -1,16 +1,10 @@
 -- What the indices of a labelling rest on.
 use Prim.Native.Nat.{ℕ, _*_, _≤_, _<_}
 use mathlib.Core.Path.{_≡_}
-use mathlib.Core.List.{List}
 use lib.ListN.{length, getD}
 use Rattle.model.specs.Ticks.{last}
 use Rattle.model.specs.Limits.{maxJunctions, maxArcs, maxIntervals}
 use Rattle.model.specs.Network.{Network, arcs, intervals}
-
--- The highest of the ends, or 0 where there is none: what lies above all of them lies above it.
-pub record Highest (ends : List ℕ) (high : ℕ) : Type 0 where
-  pub no-higher : (a : ℕ) → a < length ends → getD ends a 0 ≤ high
-  pub least : (n : ℕ) → 0 < n → ((a : ℕ) → a < length ends → getD ends a 0 < n) → high < n
 
 -- The counts are within the limits, the tables as long as they must be, and the ends are junctions.
 pub record TablesFit (N : Network) : Type 0 where
@@ -20,6 +14,7 @@ pub record TablesFit (N : Network) : Type 0 where
   pub arcs-fit : arcs N ≤ maxArcs
   pub heads-long : length (N .heads) ≡ arcs N
   pub lengths-long : length (N .lengths) ≡ arcs N
+  pub holds-long : length (N .holds) ≡ arcs N
   pub speeds-long : length (N .speeds) ≡ arcs N * intervals N
   pub tail-below : (a : ℕ) → a < arcs N → getD (N .tails) a 0 < N .junctions
   pub head-below : (a : ℕ) → a < arcs N → getD (N .heads) a 0 < N .junctions

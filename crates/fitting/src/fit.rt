@@ -2,32 +2,13 @@
 ghost use mathlib.Core.Path.{_≡_};
 ghost use mathlib.Core.Bool.{true};
 ghost use mathlib.Core.Logic.{_↔_};
-ghost use Prim.Native.Nat.{max};
 ghost use Rattle.model.specs.Lent.{lentNetwork};
-ghost use Rattle.fitting.specs.Fitting.{Highest, TablesFit, Fits};
+ghost use Rattle.fitting.specs.Fitting.{TablesFit, Fits};
+use checking::highest::highest_u16;
 use model::limit::MAX_ARCS;
 use model::limit::MAX_INTERVALS;
 use model::limit::MAX_JUNCTIONS;
 use model::tick::Tick;
-
-fn greater(a: u16, b: u16) -> u16
-    ensures { λ r. ⌜ r ≡ max a b ⌝ }
-{
-    if a < b { b } else { a }
-}
-
-// The highest end is looked for without a branch, so that the compiler can compare many at once.
-fn highest(ends: &[u16]) -> u16
-    ensures { λ r. ⌜ Highest (now (ends .entry)) r ⌝ }
-{
-    let mut high = 0;
-    let mut a = 0;
-    while a < ends.len() {
-        high = greater(high, ends[a]);
-        a += 1;
-    }
-    high
-}
 
 fn tables_fit(
     junctions: usize,
@@ -35,9 +16,10 @@ fn tables_fit(
     tails: &[u16],
     heads: &[u16],
     lengths: &[u32],
+    holds: &[u16],
     speeds: &[u8],
 ) -> bool
-    ensures { λ r. ⌜ (r ≡ true) ↔ TablesFit (lentNetwork junctions fences tails heads lengths speeds) ⌝ }
+    ensures { λ r. ⌜ (r ≡ true) ↔ TablesFit (lentNetwork junctions fences tails heads lengths holds speeds) ⌝ }
 {
     if MAX_JUNCTIONS < junctions {
         return false;
@@ -54,13 +36,16 @@ fn tables_fit(
     if lengths.len() != tails.len() {
         return false;
     }
+    if holds.len() != tails.len() {
+        return false;
+    }
     if speeds.len() != tails.len() * fences.len() {
         return false;
     }
-    if junctions <= highest(tails) as usize {
+    if junctions <= highest_u16(tails) as usize {
         return false;
     }
-    (highest(heads) as usize) < junctions
+    (highest_u16(heads) as usize) < junctions
 }
 
 // The buffers are told by their lengths.
@@ -70,13 +55,14 @@ pub fn fits(
     tails: &[u16],
     heads: &[u16],
     lengths: &[u32],
+    holds: &[u16],
     speeds: &[u8],
     source: usize,
     departure: u32,
     label_count: usize,
     predecessor_count: usize,
 ) -> bool
-    ensures { λ r. ⌜ (r ≡ true) ↔ Fits (lentNetwork junctions fences tails heads lengths speeds) source departure «label_count» «predecessor_count» ⌝ }
+    ensures { λ r. ⌜ (r ≡ true) ↔ Fits (lentNetwork junctions fences tails heads lengths holds speeds) source departure «label_count» «predecessor_count» ⌝ }
 {
     if junctions <= source {
         return false;
@@ -90,5 +76,5 @@ pub fn fits(
     if predecessor_count != junctions {
         return false;
     }
-    tables_fit(junctions, fences, tails, heads, lengths, speeds)
+    tables_fit(junctions, fences, tails, heads, lengths, holds, speeds)
 }

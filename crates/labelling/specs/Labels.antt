@@ -1,6 +1,6 @@
 -- "Labels (network, source, departure, lent labels and predecessors). 1 to 8; 9, source not below the junction count; 10,
 -- departure 864,000 or above; 11, either lent buffer not exactly as long as the junction count. Otherwise both buffers hold
--- every junction's label and predecessor."
+-- every junction's label and predecessor." By document 02, order 5, 32 stands after 8.
 use Prim.Native.Nat.{ℕ}
 use mathlib.Core.Path.{_≡_}
 use mathlib.Core.Bool.{not, _&&_}

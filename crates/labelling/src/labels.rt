@@ -19,16 +19,18 @@ pub fn labels(
     tails: &[u16],
     heads: &[u16],
     lengths: &[u32],
+    holds: &[u16],
     speeds: &[u8],
     source: u32,
     departure: Tick,
     labels: &mut [u32],
     predecessors: &mut [u16],
 ) -> Labelled
-    ensures answer { λ r. ⌜ outcomeOf r ≡ labelsAnswer (lentNetwork junctions fences tails heads lengths speeds) source (departure .number) (now (labels .entry)) (now (predecessors .entry)) ⌝ }
-    ensures labels { λ _. ⌜ now (labels .exit) ≡ labelsAfter (lentNetwork junctions fences tails heads lengths speeds) source (departure .number) (now (labels .entry)) (now (predecessors .entry)) ⌝ }
+    ensures answer { λ r. ⌜ outcomeOf r ≡ labelsAnswer (lentNetwork junctions fences tails heads lengths holds speeds) source (departure .number) (now (labels .entry)) (now (predecessors .entry)) ⌝ }
+    ensures labels { λ _. ⌜ now (labels .exit) ≡
+        labelsAfter (lentNetwork junctions fences tails heads lengths holds speeds) source (departure .number) (now (labels .entry)) (now (predecessors .entry)) ⌝ }
     ensures predecessors { λ _. ⌜ now (predecessors .exit) ≡
-        predecessorsAfter (lentNetwork junctions fences tails heads lengths speeds) source (departure .number) (now (labels .entry)) (now (predecessors .entry)) ⌝ }
+        predecessorsAfter (lentNetwork junctions fences tails heads lengths holds speeds) source (departure .number) (now (labels .entry)) (now (predecessors .entry)) ⌝ }
 {
     let tick = departure.number;
     if let NetworkCheck::Refused(refusal) = question_check(
@@ -37,6 +39,7 @@ pub fn labels(
         tails,
         heads,
         lengths,
+        holds,
         speeds,
         source,
         tick,
@@ -55,6 +58,7 @@ pub fn labels(
         tails,
         heads,
         lengths,
+        holds,
         speeds,
         source as usize,
         tick,

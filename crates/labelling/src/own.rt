@@ -20,17 +20,18 @@ pub fn labels_within(
     tails: &[u16],
     heads: &[u16],
     lengths: &[u32],
+    holds: &[u16],
     speeds: &[u8],
     source: u32,
     departure: Tick,
     labels: &mut [u32],
     predecessors: &mut [u16],
 ) -> Labelled
-    ensures answer { λ r. ⌜ outcomeOf r ≡ labelsAnswer (lentNetwork junctions fences tails heads lengths speeds) source (departure .number)
+    ensures answer { λ r. ⌜ outcomeOf r ≡ labelsAnswer (lentNetwork junctions fences tails heads lengths holds speeds) source (departure .number)
         (take junctions (now (labels .entry))) (take junctions (now (predecessors .entry))) ⌝ }
-    ensures labels { λ _. ⌜ take junctions (now (labels .exit)) ≡ labelsAfter (lentNetwork junctions fences tails heads lengths speeds) source (departure .number)
+    ensures labels { λ _. ⌜ take junctions (now (labels .exit)) ≡ labelsAfter (lentNetwork junctions fences tails heads lengths holds speeds) source (departure .number)
         (take junctions (now (labels .entry))) (take junctions (now (predecessors .entry))) ⌝ }
-    ensures predecessors { λ _. ⌜ take junctions (now (predecessors .exit)) ≡ predecessorsAfter (lentNetwork junctions fences tails heads lengths speeds) source (departure .number)
+    ensures predecessors { λ _. ⌜ take junctions (now (predecessors .exit)) ≡ predecessorsAfter (lentNetwork junctions fences tails heads lengths holds speeds) source (departure .number)
         (take junctions (now (labels .entry))) (take junctions (now (predecessors .entry))) ⌝ }
 {
     let count = junctions as usize;
@@ -42,6 +43,7 @@ pub fn labels_within(
         tails,
         heads,
         lengths,
+        holds,
         speeds,
         source,
         departure,

@@ -67,3 +67,8 @@ module _ (fences : List ℕ) (k t : ℕ) where
       both-true
       (both-true (lt-ltb k (length fences) (c .is-interval)) (le-leb (getD fences k 0) (timeOfDay t) (c .from-fence)))
       (lt-ltb (timeOfDay t) (getD fences (suc k) day) before)
+
+-- An interval that contains a tick by the test is the tick's.
+pub contained : (fences : List ℕ) {interval : ℕ} (tick : ℕ) → 0 < length fences → contains? fences interval tick ≡ true → FencesKept fences →
+    interval ≡ intervalOf fences tick
+contained fences {interval} tick some e kept = interval-contains fences kept some interval tick .1 (test-contains fences interval tick e)

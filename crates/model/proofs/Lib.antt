@@ -1,10 +1,12 @@
 pub mod Arrival
+pub mod ByLast
 pub mod Certificate
 pub mod Containing
 pub mod Covered
 pub mod Demands
 pub mod Distinct
 pub mod Entries
+pub mod Holds
 pub mod Improvement
 pub mod IntervalPieces
 pub mod Least

@@ -11,7 +11,7 @@ use Rattle.model.specs.Intervals.{intervalOf, speedAt}
 use Rattle.model.specs.Walks.{Sound}
 use Rattle.model.specs.Network.{Network, Accepted, arcs, intervals, speedsOf, speedOn, driveOf, netOf}
 use Rattle.model.specs.Demands.{Improves, NoTickSlower}
-use Rattle.model.proofs.Arrival.{arrival-is-later, arrival-is-monotone, non-passing, arrival-by-last}
+use Rattle.model.proofs.Holds.{with-hold-is-later, with-hold-is-monotone, with-hold-non-passing, with-hold-by-last}
 use Rattle.model.proofs.Improvement.{Better}
 
 pub accepted-sound : (N : Network) → Accepted N → Sound (netOf N)
@@ -19,13 +19,16 @@ unfolding driveOf
 accepted-sound N accepted = record {
   tail-below = accepted .tail-below;
   head-below = accepted .head-below;
-  later = λ a t is-arc below. arrival-is-later (speedOn N a) (spans a) t (omega (arith, accepted .some-length a is-arc)) below;
-  monotone = λ a s t is-arc earlier. non-passing (speedOn N a) (spans a) s t earlier;
-  driven = λ a t is-arc. arrival-by-last (speedOn N a) (spans a) t;
+  later = λ a t is-arc below. with-hold-is-later (speedOn N a) (spans a) (hold a) t (omega (arith, accepted .some-length a is-arc)) below;
+  monotone = λ a s t is-arc earlier. with-hold-non-passing (speedOn N a) (spans a) (hold a) s t earlier;
+  driven = λ a t is-arc. with-hold-by-last (speedOn N a) (spans a) (hold a) t;
 }
   where
     spans : ℕ → ℕ
     spans a = spansOf (getD (N .lengths) a 0)
+
+    hold : ℕ → ℕ
+    hold a = getD (N .holds) a 0
 
 module _ (A B : Network) (improves : Improves A B) where
   -- Past the last interval there is no speed at all.
@@ -48,7 +51,8 @@ module _ (A B : Network) (improves : Improves A B) where
   pub drive-no-later : (a s t : ℕ) → a < arcs A → s ≤ t → driveOf B a s ≤ driveOf A a t
   unfolding driveOf
   drive-no-later a s t is-arc earlier =
-      arrival-is-monotone (speedOn B a) (speedOn A a) (spansOf (getD (B .lengths) a 0)) (spansOf (getD (A .lengths) a 0)) s t earlier (omega (arith, improves .no-longer a is-arc))
+      with-hold-is-monotone (speedOn B a) (speedOn A a) (spansOf (getD (B .lengths) a 0)) (spansOf (getD (A .lengths) a 0)) (getD (B .holds) a 0) (getD (A .holds) a 0) s t earlier
+      (omega (arith, improves .no-longer a is-arc)) (improves .no-greater-hold a is-arc)
       (λ u. no-tick-slower A B improves a u is-arc)
 
   pub improves-better : Better (netOf A) (netOf B)

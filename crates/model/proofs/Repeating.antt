@@ -1,19 +1,19 @@
 -- The speeds repeat by the day, since a tick and the one a day later have the same time of day. So a vehicle that leaves a day later covers the
 -- same in as many ticks, and arrives a day later.
 use Prim.Native.Nat.{ℕ, zero, suc, _+_, _-_}
-use mathlib.Core.Path.{_≡_, refl, sym, ap, subst}
-use mathlib.Core.Bool.{cond}
+use mathlib.Core.Path.{_≡_, refl, sym, ap, subst, _∙_}
 use mathlib.Core.Logic.{⊎-elim}
 use native.Mathlib.Nat.{add-mod-right}
 use native.Mathlib.Omega.{arith}
-use lib.Dec.{leb}
 use lib.ListN.{getD}
-use Rattle.model.specs.Ticks.{day, last, never}
+use Rattle.model.specs.Ticks.{day, last, byLast}
 use Rattle.model.specs.Flow.{covered, arrival, IsArrival}
+use Rattle.model.specs.Holds.{arrivalWithHold}
 use Rattle.model.specs.Intervals.{passed, intervalOf, speedAt, SpeedsRepeat}
 use Rattle.model.specs.Network.{speedsOf, speedOn, driveOf, DrivesRepeat}
 use Rattle.model.proofs.Tests.{leb-cases}
 use Rattle.model.proofs.Arrival.{arrival-is, arrival-is-least}
+use Rattle.model.proofs.ByLast.{by-last-added}
 
 pub speeds-repeat : SpeedsRepeat
 unfolding speedAt intervalOf
@@ -27,7 +27,7 @@ module _ (v : ℕ → ℕ) (repeats : (t : ℕ) → v (t + day) ≡ v t) (spans 
       let later : s + day + n ≡ s + n + day = omega arith in
       rw (covered-repeats n, later, repeats (s + n))
 
-  a-day-later : {t : ℕ} → IsArrival v spans s t → IsArrival v spans (s + day) (cond (leb (t + day) last) (t + day) never)
+  a-day-later : {t : ℕ} → IsArrival v spans s t → IsArrival v spans (s + day) (byLast (t + day))
   a-day-later (IsArrival.attained n in-time enough before) =
       ⊎-elim
       (λ w.
@@ -39,9 +39,16 @@ module _ (v : ℕ → ℕ) (repeats : (t : ℕ) → v (t + day) ≡ v t) (spans 
       (leb-cases (s + n + day) last)
   a-day-later (IsArrival.none too-little) = IsArrival.none (λ m h. rw (covered-repeats m) (too-little m (omega arith)))
 
-  arrival-repeats : arrival v spans (s + day) ≡ cond (leb (arrival v spans s + day) last) (arrival v spans s + day) never
+  arrival-repeats : arrival v spans (s + day) ≡ byLast (arrival v spans s + day)
   arrival-repeats = sym (arrival-is-least v spans (s + day) _ .1 (a-day-later (arrival-is v spans s)))
 
+-- The day and the hold may be added in either order.
+either-first : (t m n : ℕ) → byLast (byLast (t + m) + n) ≡ byLast (byLast (t + n) + m)
+either-first t m n =
+    let same : t + m + n ≡ t + n + m = omega arith in
+    by-last-added (t + m) n ∙ ap byLast same ∙ sym (by-last-added (t + n) m)
+
 pub drives-repeat : DrivesRepeat
-unfolding driveOf speedOn
-drives-repeat N a t = arrival-repeats (speedOn N a) (speeds-repeat (N .fences) (speedsOf N a)) _ t
+unfolding driveOf arrivalWithHold speedOn
+drives-repeat N a t =
+    ap (λ (u : ℕ). byLast (u + getD (N .holds) a 0)) (arrival-repeats (speedOn N a) (speeds-repeat (N .fences) (speedsOf N a)) _ t) ∙ either-first _ day (getD (N .holds) a 0)

@@ -9,9 +9,9 @@ use lib.Dec.{leb, ltb, eqb}
 use lib.ListN.{length, getD, take}
 use borrow.Author.Tests.{not-false, ltb-true, leb-true, eqb-true, lt-ltb, le-leb, eq-eqb}
 use Rattle.model.specs.Ticks.{day}
-use Rattle.model.specs.Limits.{maxIntervals, maxLength, maxSpeed}
+use Rattle.model.specs.Limits.{maxIntervals, maxLength}
 use Rattle.model.specs.Intervals.{FencesKept}
-use Rattle.model.specs.Rules.{Outcome, refused, replied, Rule, _if_, firstBroken, AllKept, RefusedExactlyWhen, every, riseFrom, countKeeps, fencesKeep, lengthKeeps, speedKeeps}
+use Rattle.model.specs.Rules.{Outcome, refused, replied, Rule, _if_, firstBroken, AllKept, RefusedExactlyWhen, every, riseFrom, countKeeps, fencesKeep, lengthKeeps}
 
 -- ---- Which rule counts
 
@@ -135,11 +135,13 @@ module _ {A : Type 0} (test : A → Bool) (d : A) where
   at-every [] all = refl
   at-every (x ∷ xs) all = both-true (all 0 (omega arith)) (at-every xs (λ k h. all (suc k) (omega arith)))
 
-pub kept-speeds : (speeds : List ℕ) → not (every speedKeeps speeds) ≡ false → (k : ℕ) → k < length speeds → getD speeds k 0 ≤ maxSpeed
-kept-speeds speeds e k h = leb-true (getD speeds k 0) maxSpeed (every-at speedKeeps 0 speeds (not-false (every speedKeeps speeds) e) k h)
+-- The rule on speeds and that on holds: every entry is within a limit.
+module _ (limit : ℕ) (xs : List ℕ) where
+  pub kept-within : not (every (λ x. leb x limit) xs) ≡ false → (k : ℕ) → k < length xs → getD xs k 0 ≤ limit
+  kept-within e k h = leb-true (getD xs k 0) limit (every-at (λ x. leb x limit) 0 xs (not-false (every (λ x. leb x limit) xs) e) k h)
 
-pub speeds-kept : (speeds : List ℕ) → ((k : ℕ) → k < length speeds → getD speeds k 0 ≤ maxSpeed) → not (every speedKeeps speeds) ≡ false
-speeds-kept speeds fit = ap not (at-every speedKeeps 0 speeds (λ k h. le-leb (getD speeds k 0) maxSpeed (fit k h)))
+  pub within-kept : ((k : ℕ) → k < length xs → getD xs k 0 ≤ limit) → not (every (λ x. leb x limit) xs) ≡ false
+  within-kept fit = ap not (at-every (λ x. leb x limit) 0 xs (λ k h. le-leb (getD xs k 0) limit (fit k h)))
 
 -- ---- The fences
 

@@ -30,8 +30,9 @@ OnlyTablesOfNetwork = (N : Network) → Accepted N → (source departure : ℕ) 
 -- ---- When things get better
 
 -- The second network has all that the first has, and every change is for the better: more junctions and arcs, no arc longer, none
--- slower in any interval. The first network's junctions and arcs keep their numbers, and the second's further ones follow them. Document 02,
--- order 2: "The rules on earliest arrival and on improvement speak of the repeating speeds." Both go by `speedOn`: see `NoTickSlower`.
+-- slower in any interval, no hold greater. The first network's junctions and arcs keep their numbers, and the second's further ones follow them.
+-- Document 02, order 2: "The rules on earliest arrival and on improvement speak of the repeating speeds." Both go by `speedOn`: see `NoTickSlower`.
+-- Order 5: "The improvement rule now also asks that no hold is greater in the second network."
 pub record Improves (A B : Network) : Type 0 where
   pub same-fences : A .fences ≡ B .fences
   pub more-junctions : A .junctions ≤ B .junctions
@@ -39,6 +40,7 @@ pub record Improves (A B : Network) : Type 0 where
   pub same-tail : (a : ℕ) → a < arcs A → getD (A .tails) a 0 ≡ getD (B .tails) a 0
   pub same-head : (a : ℕ) → a < arcs A → getD (A .heads) a 0 ≡ getD (B .heads) a 0
   pub no-longer : (a : ℕ) → a < arcs A → getD (B .lengths) a 0 ≤ getD (A .lengths) a 0
+  pub no-greater-hold : (a : ℕ) → a < arcs A → getD (B .holds) a 0 ≤ getD (A .holds) a 0
   pub no-slower : (a k : ℕ) → a < arcs A → k < intervals A → getD (speedsOf A a) k 0 ≤ getD (speedsOf B a) k 0
 
 -- "A single claim about two whole networks with all its changes together" asks: both are accepted, the second improves on the first, and the

@@ -1,5 +1,6 @@
 pub mod Demands
 pub mod Flow
+pub mod Holds
 pub mod Intervals
 pub mod Labels
 pub mod Lent

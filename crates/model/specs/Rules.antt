@@ -8,7 +8,7 @@ use mathlib.Core.List.{List, [], _∷_, _++_}
 use lib.Dec.{leb, ltb, eqb}
 use lib.ListN.{length, getD, take, drop}
 use Rattle.model.specs.Ticks.{day}
-use Rattle.model.specs.Limits.{maxIntervals, maxLength, maxSpeed}
+use Rattle.model.specs.Limits.{maxIntervals, maxLength, maxSpeed, maxHold}
 
 -- What an operation comes to: the refusal's number, or the reply.
 pub data Outcome (Reply : Type 0) : Type 0 where
@@ -71,3 +71,6 @@ lengthKeeps metres = ltb 0 metres && leb metres maxLength
 
 abbrev pub speedKeeps : ℕ → Bool
 speedKeeps speed = leb speed maxSpeed
+
+abbrev pub holdKeeps : ℕ → Bool
+holdKeeps hold = leb hold maxHold

@@ -11,4 +11,7 @@ pub const MAX_LENGTH: u32 = 100_000;
 // In kilometres an hour, which is as many spans a tick.
 pub const MAX_SPEED: u8 = 200;
 
+// In ticks.
+pub const MAX_HOLD: u32 = 1_200;
+
 pub const SPANS_PER_METRE: u64 = 36;

@@ -2,6 +2,7 @@
 ghost use mathlib.Core.Path.{_≡_};
 ghost use Prim.Native.Nat.{_≤_};
 ghost use lib.ListN.{length, take};
+ghost use Rattle.model.specs.Limits.{maxArcs};
 ghost use Rattle.model.specs.Lent.{lentNetwork, networkIn};
 ghost use Rattle.model.specs.NetworkRules.{networkCheck};
 ghost use Rattle.model.specs.Rules.{replied, written};
@@ -47,13 +48,14 @@ fn network_arrivals(
     tails: &[u16],
     heads: &[u16],
     lengths: &[u32],
+    holds: &[u16],
     speeds: &[u8],
     source: u32,
     departure: u32,
     output: &mut [u8; 4096],
 ) -> usize
-    requires { ⌜ networkCheck (networkIn junctions fences tails heads lengths speeds) ≡ replied tt ⌝ }
-    ensures { λ r. ⌜ Printed (textOf (networkAnswer (lentNetwork junctions fences tails heads lengths speeds) source departure)) (now (output .entry)) (now (output .exit)) r ⌝ }
+    requires { ⌜ networkCheck (networkIn junctions fences tails heads lengths holds speeds) ≡ replied tt ⌝ }
+    ensures { λ r. ⌜ Printed (textOf (networkAnswer (lentNetwork junctions fences tails heads lengths holds speeds) source departure)) (now (output .entry)) (now (output .exit)) r ⌝ }
 {
     let mut earliest = [0u32; MAX_JUNCTIONS];
     let mut predecessors = [0u16; MAX_JUNCTIONS];
@@ -63,6 +65,7 @@ fn network_arrivals(
         tails,
         heads,
         lengths,
+        holds,
         speeds,
         source,
         Tick { number: departure },
@@ -88,6 +91,7 @@ fn loaded_arrivals(
     departure: u32,
     output: &mut [u8; 4096],
 ) -> usize
+    requires { ⌜ arcs ≤ maxArcs ⌝ }
     requires { ⌜ LongEnough (counts junctions intervals arcs) (tablesIn fences tails heads lengths speeds) ⌝ }
     requires { ⌜ networkCheck (networkAt (counts junctions intervals arcs) (tablesIn fences tails heads lengths speeds)) ≡ replied tt ⌝ }
     ensures { λ r. ⌜ Printed (textOf (networkAnswer (networkAt (counts junctions intervals arcs) (lentTables fences tails heads lengths speeds)) source departure))
@@ -96,12 +100,15 @@ fn loaded_arrivals(
     let width = intervals as usize;
     let count = arcs as usize;
     let speed_count = count * width;
+    // Town files have hold 0.
+    let holds = [0u16; MAX_ARCS];
     network_arrivals(
         junctions,
         &fences[..width],
         &tails[..count],
         &heads[..count],
         &lengths[..count],
+        &holds[..count],
         &speeds[..speed_count],
         source,
         departure,

@@ -3,7 +3,7 @@ use Prim.Native.Nat.{_<_}
 use native.Mathlib.Omega.{arith}
 use Rattle.refusals.specs.Refusals.{numberOf}
 use Rattle.refusals.specs.declared.refusal.Refusal.{Refusal}
-use Rattle.refusals.specs.declared.refusal.Refusal.the-variants.{JunctionCount, IntervalCount, ArcCount, TableLength, Fence, ArcEnds, Length, Speed}
+use Rattle.refusals.specs.declared.refusal.Refusal.the-variants.{JunctionCount, IntervalCount, ArcCount, TableLength, Fence, ArcEnds, Length, Speed, Hold}
 use Rattle.refusals.specs.declared.refusal.Refusal.the-variants.{Source, Departure, BufferLength, Destination, Unreached, ArcListLength, DepartureAfterLast}
 use Rattle.refusals.specs.declared.refusal.Refusal.the-variants.{TextLength, NoLineFeed, LineLength, UnknownMark, MarkOutOfTurn, FieldForm, FieldValue, LineMissing, TableTooShort}
 use Rattle.refusals.specs.declared.refusal.Refusal.the-variants.{DepartureCount, SheetLength, DepartureInterval}
@@ -35,4 +35,5 @@ number-fits LineMissing = omega arith
 number-fits TableTooShort = omega arith
 number-fits DepartureCount = omega arith
 number-fits SheetLength = omega arith
+number-fits Hold = omega arith
 number-fits DepartureInterval = omega arith

@@ -1,7 +1,7 @@
 -- The number that documents 01 and 02 give each refusal, and what is added to it where one number answers either a refusal or a tick.
 use Prim.Native.Nat.{ℕ}
 use Rattle.refusals.specs.declared.refusal.Refusal.{Refusal}
-use Rattle.refusals.specs.declared.refusal.Refusal.the-variants.{JunctionCount, IntervalCount, ArcCount, TableLength, Fence, ArcEnds, Length, Speed}
+use Rattle.refusals.specs.declared.refusal.Refusal.the-variants.{JunctionCount, IntervalCount, ArcCount, TableLength, Fence, ArcEnds, Length, Speed, Hold}
 use Rattle.refusals.specs.declared.refusal.Refusal.the-variants.{Source, Departure, BufferLength, Destination, Unreached, ArcListLength, DepartureAfterLast}
 use Rattle.refusals.specs.declared.refusal.Refusal.the-variants.{TextLength, NoLineFeed, LineLength, UnknownMark, MarkOutOfTurn, FieldForm, FieldValue, LineMissing, TableTooShort}
 use Rattle.refusals.specs.declared.refusal.Refusal.the-variants.{DepartureCount, SheetLength, DepartureInterval}
@@ -33,6 +33,7 @@ numberOf LineMissing = 27
 numberOf TableTooShort = 28
 numberOf DepartureCount = 30
 numberOf SheetLength = 31
+numberOf Hold = 32
 numberOf DepartureInterval = 46
 
 -- "As 4,294,900,000 + its number": a refusal's code is this and its number.

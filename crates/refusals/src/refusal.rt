@@ -13,6 +13,7 @@ pub enum Refusal {
     ArcEnds,
     Length,
     Speed,
+    Hold,
     // The question's.
     Source,
     Departure,
@@ -73,6 +74,7 @@ impl Refusal {
             Refusal::TableTooShort => 28,
             Refusal::DepartureCount => 30,
             Refusal::SheetLength => 31,
+            Refusal::Hold => 32,
             Refusal::DepartureInterval => 46,
         }
     }

@@ -1,6 +1,7 @@
 -- "Route (network, source, departure, destination, lent arc list). 1 to 10; 12, destination not below the junction count; 13,
 -- destination unreached; 14, the list is shorter than the route. Otherwise the number of arcs, and at the list's start the arc
--- numbers in driving order, found by following predecessors; later entries are unchanged. From the source to itself: 0 arcs."
+-- numbers in driving order, found by following predecessors; later entries are unchanged. From the source to itself: 0 arcs." By
+-- document 02, order 5, 32 stands after 8.
 use Prim.Native.Nat.{ℕ, _≤_, _<_}
 use mathlib.Core.Path.{_≡_}
 use mathlib.Core.Bool.{not}

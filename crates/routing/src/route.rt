@@ -117,15 +117,16 @@ pub fn route(
     tails: &[u16],
     heads: &[u16],
     lengths: &[u32],
+    holds: &[u16],
     speeds: &[u8],
     source: u32,
     departure: Tick,
     destination: u32,
     arcs: &mut [u16],
 ) -> Routed
-    ensures answer { λ r. ⌜ outcomeOf r ≡ routeAnswer (lentNetwork junctions fences tails heads lengths speeds) source (departure .number) destination (now (arcs .entry)) ⌝ }
-    ensures arrival { λ r. ⌜ arrivalOf r ≡ routeArrival (lentNetwork junctions fences tails heads lengths speeds) source (departure .number) destination (now (arcs .entry)) ⌝ }
-    ensures arcs { λ _. ⌜ now (arcs .exit) ≡ arcsAfter (lentNetwork junctions fences tails heads lengths speeds) source (departure .number) destination (now (arcs .entry)) ⌝ }
+    ensures answer { λ r. ⌜ outcomeOf r ≡ routeAnswer (lentNetwork junctions fences tails heads lengths holds speeds) source (departure .number) destination (now (arcs .entry)) ⌝ }
+    ensures arrival { λ r. ⌜ arrivalOf r ≡ routeArrival (lentNetwork junctions fences tails heads lengths holds speeds) source (departure .number) destination (now (arcs .entry)) ⌝ }
+    ensures arcs { λ _. ⌜ now (arcs .exit) ≡ arcsAfter (lentNetwork junctions fences tails heads lengths holds speeds) source (departure .number) destination (now (arcs .entry)) ⌝ }
 {
     let mut earliest = [UNREACHED; MAX_JUNCTIONS];
     let mut predecessors = [NO_ARC; MAX_JUNCTIONS];
@@ -135,6 +136,7 @@ pub fn route(
         tails,
         heads,
         lengths,
+        holds,
         speeds,
         source,
         departure,

@@ -23,8 +23,9 @@ fn print_arc(answer: ArcArrival) {
     io::write_all(STDOUT_FILENO, b"\n");
 }
 
-pub(crate) fn print_drive(
+pub(crate) fn print_held(
     metres: u32,
+    hold: u32,
     fences: &[u32],
     speeds: &[u8],
     departure: u32,
@@ -37,7 +38,24 @@ pub(crate) fn print_drive(
     io::write_all(STDOUT_FILENO, b" in interval ");
     io::print_decimal(STDOUT_FILENO, interval as u64);
     io::write_all(STDOUT_FILENO, b": ");
-    print_arc(arc_arrival(Tick { number: departure }, interval, metres, fences, speeds));
+    print_arc(arc_arrival(
+        Tick { number: departure },
+        interval,
+        metres,
+        hold,
+        fences,
+        speeds,
+    ));
+}
+
+pub(crate) fn print_drive(
+    metres: u32,
+    fences: &[u32],
+    speeds: &[u8],
+    departure: u32,
+    interval: u32,
+) {
+    print_held(metres, 0, fences, speeds, departure, interval);
 }
 
 // One interval from tick 0 on, left at tick 0.
@@ -49,5 +67,5 @@ pub(crate) fn print_row(metres: u32, speed: u8) {
     io::write_all(STDOUT_FILENO, b" speed ");
     io::print_decimal(STDOUT_FILENO, speed as u64);
     io::write_all(STDOUT_FILENO, b": ");
-    print_arc(arc_arrival(Tick { number: 0 }, 0, metres, &fences, &speeds));
+    print_arc(arc_arrival(Tick { number: 0 }, 0, metres, 0, &fences, &speeds));
 }

@@ -1,5 +1,5 @@
-// The reckonings of document 01 that are run and not proved, and others around midnight and with wrong intervals, each on a line with what
-// the operation answers.
+// The reckonings of document 01 that are run and not proved, and others around midnight, with wrong intervals and with holds, each on a line
+// with what the operation answers. By document 02, order 5, "the rows to keep (..) have hold 0".
 ghost use mathlib.Core.Path.{_≡_};
 ghost use lib.ListN.{length};
 use labelling::labels::Labelled;
@@ -11,8 +11,10 @@ use routing::route::Routed;
 use routing::route::route;
 
 mod arcs;
+mod holds;
 mod intervals;
 mod midnight;
+mod table_1;
 
 fn print_refusal(refusal: Refusal) {
     io::write_all(STDOUT_FILENO, b" refused ");
@@ -59,6 +61,7 @@ fn print_labels(
     tails: &[u16],
     heads: &[u16],
     lengths: &[u32],
+    holds: &[u16],
     speeds: &[u8],
     departure: u32,
     earliest: &mut [u32],
@@ -70,6 +73,7 @@ fn print_labels(
         tails,
         heads,
         lengths,
+        holds,
         speeds,
         0,
         Tick { number: departure },
@@ -81,133 +85,30 @@ fn print_labels(
     }
 }
 
-// The route from the first of five junctions to the last, and a list of three.
-fn print_route_of_5(
+// The labels of three junctions from the first, to the line's end.
+fn print_labels_of_3(
     fences: &[u32],
     tails: &[u16],
     heads: &[u16],
     lengths: &[u32],
+    holds: &[u16],
     speeds: &[u8],
     departure: u32,
 ) {
-    let mut arcs = [9u16; 3];
-    print_route(route(
-        5,
+    let mut earliest = [0u32; 3];
+    let mut predecessors = [0u16; 3];
+    print_labels(
+        3,
         fences,
         tails,
         heads,
         lengths,
+        holds,
         speeds,
-        0,
-        Tick { number: departure },
-        4,
-        &mut arcs,
-    ));
-    io::write_all(STDOUT_FILENO, b", list");
-    print_entry(arcs[0]);
-    print_entry(arcs[1]);
-    print_entry(arcs[2]);
-}
-
-// Document 004's Table 1 network: o, a, b, c, d as 0 to 4. After the labels comes the route to d.
-fn print_table_1(departure: u32) {
-    let fences = [
-        0u32,
-        6_000,
-        12_000,
-        18_000,
-        24_000,
-        30_000,
-        36_000,
-        42_000,
-        48_000,
-    ];
-    let tails = [0u16, 0, 1, 1, 2, 2, 3];
-    let heads = [1u16, 2, 2, 3, 3, 4, 4];
-    let lengths = [10_000u32; 7];
-    let speeds = [
-        40u8,
-        40,
-        40,
-        40,
-        40,
-        40,
-        40,
-        40,
-        40,
-        60,
-        30,
-        10,
-        20,
-        40,
-        60,
-        60,
-        60,
-        60,
-        60,
-        40,
-        30,
-        40,
-        60,
-        60,
-        60,
-        60,
-        60,
-        40,
-        40,
-        40,
-        40,
-        40,
-        40,
-        40,
-        40,
-        40,
-        60,
-        60,
-        60,
-        60,
-        40,
-        30,
-        60,
-        60,
-        60,
-        60,
-        60,
-        60,
-        60,
-        60,
-        30,
-        10,
-        30,
-        60,
-        40,
-        40,
-        40,
-        40,
-        40,
-        40,
-        40,
-        40,
-        40,
-    ];
-    let mut earliest = [0u32; 5];
-    let mut predecessors = [0u16; 5];
-    io::write_all(STDOUT_FILENO, b"Table 1 from ");
-    io::print_decimal(STDOUT_FILENO, departure as u64);
-    io::write_all(STDOUT_FILENO, b":");
-    print_labels(
-        5,
-        &fences,
-        &tails,
-        &heads,
-        &lengths,
-        &speeds,
         departure,
         &mut earliest,
         &mut predecessors,
     );
-    io::write_all(STDOUT_FILENO, b"; route:");
-    print_route_of_5(&fences, &tails, &heads, &lengths, &speeds, departure);
     io::write_all(STDOUT_FILENO, b"\n");
 }
 
@@ -217,6 +118,7 @@ fn print_sample(source: u32, destination: u32, arcs: &mut [u16]) {
     let tails = [0u16, 0, 1];
     let heads = [1u16, 2, 2];
     let lengths = [50u32, 100, 50];
+    let holds = [0u16; 3];
     let speeds = [36u8, 18, 40, 20, 36, 36];
     io::write_all(STDOUT_FILENO, b"sample town from ");
     io::print_decimal(STDOUT_FILENO, source as u64);
@@ -231,6 +133,7 @@ fn print_sample(source: u32, destination: u32, arcs: &mut [u16]) {
         &tails,
         &heads,
         &lengths,
+        &holds,
         &speeds,
         source,
         Tick { number: 10 },
@@ -282,6 +185,7 @@ fn print_row_of_junctions(arcs: &mut [u16]) {
     let mut tails = [0u16; 199];
     let mut heads = [0u16; 199];
     let lengths = [10u32; 199];
+    let holds = [0u16; 199];
     let speeds = [36u8; 199];
     number_from_the_end(&mut tails, &mut heads);
     io::write_all(STDOUT_FILENO, b"200 junctions in a row, room ");
@@ -293,6 +197,7 @@ fn print_row_of_junctions(arcs: &mut [u16]) {
         &tails,
         &heads,
         &lengths,
+        &holds,
         &speeds,
         0,
         Tick { number: 0 },
@@ -323,12 +228,12 @@ fn main() {
     arcs::print_row(100_000, 200);
     arcs::print_row(100_001, 200);
     arcs::print_row(100_000, 201);
-    print_table_1(9_000);
-    print_table_1(21_000);
-    print_table_1(24_000);
-    print_table_1(27_000);
-    print_table_1(863_999);
-    print_table_1(864_000);
+    table_1::print_table_1(9_000);
+    table_1::print_table_1(21_000);
+    table_1::print_table_1(24_000);
+    table_1::print_table_1(27_000);
+    table_1::print_table_1(863_999);
+    table_1::print_table_1(864_000);
     print_samples_without_room();
     print_sample_with_just_room();
     print_sample_with_room(0, 2);
@@ -338,4 +243,5 @@ fn main() {
     print_row_with_just_room();
     midnight::print_rows();
     intervals::print_rows();
+    holds::print_rows();
 }

@@ -1,6 +1,6 @@
 // Reckonings around midnight, by document 02, order 2: plans start again.
 use crate::arcs::print_drive;
-use crate::print_labels;
+use crate::print_labels_of_3;
 use libc::STDOUT_FILENO;
 
 // A plan that moves one metre a day, in its last tick: left in that tick of either day, and at either midnight.
@@ -25,26 +25,22 @@ fn print_halves(morning: u8, evening: u8, departure: u32) {
     let tails = [0u16, 1];
     let heads = [1u16, 2];
     let lengths = [10u32, 10];
+    let holds = [0u16; 2];
     let speeds = [36u8, 36, morning, evening];
-    let mut earliest = [0u32; 3];
-    let mut predecessors = [0u16; 3];
     io::write_all(STDOUT_FILENO, b"half days of ");
     io::print_decimal(STDOUT_FILENO, morning as u64);
     io::write_all(STDOUT_FILENO, b" and ");
     io::print_decimal(STDOUT_FILENO, evening as u64);
     io::write_all(STDOUT_FILENO, b":");
-    print_labels(
-        3,
+    print_labels_of_3(
         &fences,
         &tails,
         &heads,
         &lengths,
+        &holds,
         &speeds,
         departure,
-        &mut earliest,
-        &mut predecessors,
     );
-    io::write_all(STDOUT_FILENO, b"\n");
 }
 
 pub(crate) fn print_rows() {

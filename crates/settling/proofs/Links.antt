@@ -17,21 +17,22 @@ use Rattle.settling.proofs.Offered.{labels-stay, predecessors-stay, tou
 pub arc-inside : (a n m : ℕ) → a < m → a * n + n ≤ m * n
 arc-inside a n m h = omega (arith, mul-le-mul-right n h, suc-mul a n)
 
-pub record Onward (first : ℕ) (fences heads lengths speeds next : List ℕ) (before : Tables) (settled : List Bool) (tick interval a : ℕ) (now : Tables) : Type 0 where
+pub record Onward (first : ℕ) (fences heads lengths holds speeds next : List ℕ) (before : Tables) (settled : List Bool) (tick interval a : ℕ) (now : Tables) : Type 0 where
   pub arc-is : (a ≡ noArc → ⊥) → a < length heads
   pub labels-long : length (now .labels) ≡ length (before .labels)
   pub predecessors-long : length (now .predecessors) ≡ length (before .predecessors)
   pub tournament : Tournament (now .tree)
-  pub so-far : (after : Tables) → AllOffered fences heads lengths speeds next settled tick interval a now after →
-      AllOffered fences heads lengths speeds next settled tick interval first before after
+  pub so-far : (after : Tables) → AllOffered fences heads lengths holds speeds next settled tick interval a now after →
+      AllOffered fences heads lengths holds speeds next settled tick interval first before after
 
-module _ {first : ℕ} {fences heads lengths speeds next : List ℕ} {before : Tables} (d : Drivable first fences heads lengths speeds next before) where
+module _ {first : ℕ} {fences heads lengths holds speeds next : List ℕ} {before : Tables} (d : Drivable first fences heads lengths holds speeds next before) where
   -- another tree whose matches are played does as well
-  pub drivable-by : {tree : List ℕ} → Tournament tree → Drivable first fences heads lengths speeds next (tables (before .labels) (before .predecessors) (before .intervals) tree)
+  pub drivable-by : {tree : List ℕ} → Tournament tree → Drivable first fences heads lengths holds speeds next (tables (before .labels) (before .predecessors) (before .intervals) tree)
   drivable-by played = record {
     few-arcs = d .few-arcs;
     few-intervals = d .few-intervals;
     lengths-long = d .lengths-long;
+    holds-long = d .holds-long;
     speeds-long = d .speeds-long;
     few-junctions = d .few-junctions;
     predecessors-long = d .predecessors-long;
@@ -41,7 +42,7 @@ module _ {first : ℕ} {fences heads lengths speeds next : List ℕ} {before : T
     tournament = played;
   }
 
-  pub onward-starts : (settled : List Bool) (tick interval : ℕ) → Onward first fences heads lengths speeds next before settled tick interval first before
+  pub onward-starts : (settled : List Bool) (tick interval : ℕ) → Onward first fences heads lengths holds speeds next before settled tick interval first before
   onward-starts settled tick interval = record {
     arc-is = d .first-is;
     labels-long = refl;
@@ -50,16 +51,17 @@ module _ {first : ℕ} {fences heads lengths speeds next : List ℕ} {before : T
     so-far = λ after rest. rest;
   }
 
-  module _ {settled : List Bool} {tick interval a : ℕ} {now : Tables} (o : Onward first fences heads lengths speeds next before settled tick interval a now)
+  module _ {settled : List Bool} {tick interval a : ℕ} {now : Tables} (o : Onward first fences heads lengths holds speeds next before settled tick interval a now)
       (some : a ≡ noArc → ⊥) where
     abbrev is-arc : a < length heads
     is-arc = o .arc-is some
 
-    pub onward-arc : HasArc a fences lengths speeds
+    pub onward-arc : HasArc a fences lengths holds speeds
     onward-arc = record {
       few-arcs = omega (arith, is-arc, d .few-arcs);
       few-intervals = d .few-intervals;
       has-length = omega (arith, is-arc, d .lengths-long);
+      has-hold = omega (arith, is-arc, d .holds-long);
       has-speeds = omega (arith, arc-inside a (length fences) (length heads) is-arc, d .speeds-long);
     }
 
@@ -79,7 +81,7 @@ module _ {first : ℕ} {fences heads lengths speeds next : List ℕ} {before : T
     }
 
     pub onward-skips : getD settled head false ≡ true →
-        Onward first fences heads lengths speeds next before settled tick interval (getD next a 0) now
+        Onward first fences heads lengths holds speeds next before settled tick interval (getD next a 0) now
     onward-skips done = record {
       arc-is = λ more. d .next-is a is-arc more .1;
       labels-long = o .labels-long;
@@ -88,8 +90,8 @@ module _ {first : ℕ} {fences heads lengths speeds next : List ℕ} {before : T
       so-far = λ after rest. o .so-far after (skips some (rw head-is at done) rest);
     }
 
-    pub onward-offers : {then : Tables} → getD settled head false ≡ false → ArcOffered fences lengths speeds a head tick interval now then →
-        Onward first fences heads lengths speeds next before settled tick interval (getD next a 0) then
+    pub onward-offers : {then : Tables} → getD settled head false ≡ false → ArcOffered fences lengths holds speeds a head tick interval now then →
+        Onward first fences heads lengths holds speeds next before settled tick interval (getD next a 0) then
     onward-offers waits driven = record {
       arc-is = λ more. d .next-is a is-arc more .1;
       labels-long = labels-stay driven ∙ o .labels-long;

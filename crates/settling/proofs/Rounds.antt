@@ -23,11 +23,12 @@ pub record Between (N : Network) (source departure : ℕ) (first next : List ℕ
 
 module _ {N : Network} (fit : TablesFit N) where
   pub drivable : {first next : List ℕ} {settled : List Bool} {t : Tables} {junction : ℕ} → Linked (N .tails) first next → Standing (N .junctions) settled t →
-      junction < 200 → Drivable (getD first junction 0) (N .fences) (N .heads) (N .lengths) (N .speeds) next t
+      junction < 200 → Drivable (getD first junction 0) (N .fences) (N .heads) (N .lengths) (N .holds) (N .speeds) next t
   drivable {next} linked s inside = record {
     few-arcs = omega (arith, fit .heads-long, fit .arcs-fit);
     few-intervals = fit .intervals-fit;
     lengths-long = omega (arith, fit .lengths-long, fit .heads-long);
+    holds-long = omega (arith, fit .holds-long, fit .heads-long);
     speeds-long = fit .speeds-long ∙ rw (fit .heads-long);
     few-junctions = omega (arith, s .labels-long, fit .junctions-fit);
     predecessors-long = omega (arith, s .predecessors-long, s .labels-long);
@@ -43,7 +44,7 @@ module _ {N : Network} (fit : TablesFit N) where
       (b : Between N source departure first next settled t) {junction : ℕ} (inside : junction < 200)
       (waits : Waits (t .labels) settled junction) (nearest : ByLast (t .labels) → Nearest (t .labels) settled junction) where
     pub between-goes-on : {settled′ : List Bool} {u : Tables} →
-        Settles junction (N .fences) (N .heads) (N .lengths) (N .speeds) first next settled settled′ t u →
+        Settles junction (N .fences) (N .heads) (N .lengths) (N .holds) (N .speeds) first next settled settled′ t u →
         Between N source departure first next settled′ u
     between-goes-on s = rw (s .settled-is) (record {
       linked = b .linked;

@@ -15,7 +15,7 @@ use Rattle.model.specs.Ticks.{last, never}
 use Rattle.model.specs.Intervals.{intervalOf, tickAndInterval?}
 use Rattle.model.specs.Network.{Network, Accepted, arcs, intervals, speedOn, driveOf, netOf, arcSpeeds}
 use Rattle.model.specs.Labels.{noArc, labelsOf, predecessorsOf}
-use Rattle.model.proofs.Arrival.{arrival-by-last}
+use Rattle.model.proofs.Holds.{with-hold-by-last}
 use Rattle.model.proofs.WithInterval.{arrived-at, arrived-never}
 use Rattle.model.proofs.Entries.{getD-inside, getD-all}
 use Rattle.model.proofs.Networks.{accepted-sound}
@@ -257,16 +257,16 @@ module _ {N : Network} {source departure : ℕ} (q : Taken N source departure) w
     }
 
     -- what the engine answers is the arrival on the arc
-    arrives-on : {arrived : Option (ℕ × ℕ)} → ArrivesOn (N .fences) (N .lengths) (N .speeds) a tick interval arrived →
+    arrives-on : {arrived : Option (ℕ × ℕ)} → ArrivesOn (N .fences) (N .lengths) (N .holds) (N .speeds) a tick interval arrived →
         arrived ≡ tickAndInterval? (N .fences) (driveOf N a tick)
     unfolding driveOf speedOn
     arrives-on on = on (arc-kept N (q .accepted) tick interval a (turn .settling .in-time) (turn .interval-is) (at .0))
 
     by-last : (driveOf N a tick ≤ last) ⊎ (driveOf N a tick ≡ never)
     unfolding driveOf
-    by-last = arrival-by-last _ _ _
+    by-last = with-hold-by-last _ _ _ _
 
-    turn-misses : ArrivesOn (N .fences) (N .lengths) (N .speeds) a tick interval Option.none → Turn N source departure settled junction tick interval (getD next a 0) t
+    turn-misses : ArrivesOn (N .fences) (N .lengths) (N .holds) (N .speeds) a tick interval Option.none → Turn N source departure settled junction tick interval (getD next a 0) t
     turn-misses on = record {
       settling = missed (q .accepted) (turn .settling) a (at .0) tail-settled tail-label more (arrived-never (N .fences) (driveOf N a tick) by-last (arrives-on on));
       junction-settled = turn .junction-settled;
@@ -276,7 +276,7 @@ module _ {N : Network} {source departure : ℕ} (q : Taken N source departure) w
     }
 
     turn-offers : {arrival arrives-in : ℕ} {u : Tables} → getD settled (getD (N .heads) a 0) false ≡ false →
-        ArrivesOn (N .fences) (N .lengths) (N .speeds) a tick interval (Option.some (arrival, arrives-in)) →
+        ArrivesOn (N .fences) (N .lengths) (N .holds) (N .speeds) a tick interval (Option.some (arrival, arrives-in)) →
         Leaves a (getD (N .heads) a 0) arrival arrives-in t u → Turn N source departure settled junction tick interval (getD next a 0) u
     turn-offers {arrival} {arrives-in} {u} waits on leaves = record {
       settling = rw (labels-are, predecessors-are) (offered (q .accepted) (turn .settling) a (at .0) tail-settled tail-label more waits (omega (arith, arrives .2)));
@@ -305,7 +305,7 @@ module _ {N : Network} {source departure : ℕ} (q : Taken N source departure) w
         stays = settled-stays (q .accepted) (turn .settling) a (at .0) tail-settled tail-label more waits junction (turn .junction-settled)
 
   pub turn-through : {settled : List Bool} {first next : List ℕ} {junction tick interval a : ℕ} {t u : Tables} → Linked (N .tails) first next →
-      AllOffered (N .fences) (N .heads) (N .lengths) (N .speeds) next settled tick interval a t u → OfJunction N junction a →
+      AllOffered (N .fences) (N .heads) (N .lengths) (N .holds) (N .speeds) next settled tick interval a t u → OfJunction N junction a →
       Turn N source departure settled junction tick interval a t → Turn N source departure settled junction tick interval noArc u
   turn-through linked none-left is-arc turn = turn
   turn-through linked (skips some done rest) is-arc turn =

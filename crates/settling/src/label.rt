@@ -42,17 +42,18 @@ fn label_all(
     tails: &[u16],
     heads: &[u16],
     lengths: &[u32],
+    holds: &[u16],
     speeds: &[u8],
     source: usize,
     departure: u32,
     labels: &mut [u32],
     predecessors: &mut [u16],
 )
-    requires { ⌜ Fits (networkIn junctions fences tails heads lengths speeds) source departure (length (now labels)) (length (now predecessors)) ⌝ }
-    ensures labels { λ _. ⌜ (Labelable (lentNetwork junctions fences tails heads lengths speeds) source departure (now (labels .entry)) (now (predecessors .entry)) →
-        now (labels .exit) ≡ labelsOf (netOf (lentNetwork junctions fences tails heads lengths speeds)) source departure) ⌝ }
-    ensures predecessors { λ _. ⌜ (Labelable (lentNetwork junctions fences tails heads lengths speeds) source departure (now (labels .entry)) (now (predecessors .entry)) →
-        now (predecessors .exit) ≡ predecessorsOf (netOf (lentNetwork junctions fences tails heads lengths speeds)) source departure) ⌝ }
+    requires { ⌜ Fits (networkIn junctions fences tails heads lengths holds speeds) source departure (length (now labels)) (length (now predecessors)) ⌝ }
+    ensures labels { λ _. ⌜ (Labelable (lentNetwork junctions fences tails heads lengths holds speeds) source departure (now (labels .entry)) (now (predecessors .entry)) →
+        now (labels .exit) ≡ labelsOf (netOf (lentNetwork junctions fences tails heads lengths holds speeds)) source departure) ⌝ }
+    ensures predecessors { λ _. ⌜ (Labelable (lentNetwork junctions fences tails heads lengths holds speeds) source departure (now (labels .entry)) (now (predecessors .entry)) →
+        now (predecessors .exit) ≡ predecessorsOf (netOf (lentNetwork junctions fences tails heads lengths holds speeds)) source departure) ⌝ }
 {
     clear(labels, predecessors);
     labels[source] = departure;
@@ -62,7 +63,7 @@ fn label_all(
     let mut settled = [false; MAX_JUNCTIONS];
     let mut tree = [UNREACHED; NODES];
     enter(&mut tree, source, key_of(departure, source));
-    // Only the departure's interval is looked up; the engine hands back those of the arrivals.
+    // The departure's interval is looked up here; the engine hands back those of the arrivals.
     let mut intervals = [0u8; MAX_JUNCTIONS];
     intervals[source] = interval_of(fences, departure) as u8;
     loop {
@@ -75,6 +76,7 @@ fn label_all(
             fences,
             heads,
             lengths,
+            holds,
             speeds,
             &first,
             &next,
@@ -95,16 +97,17 @@ pub fn label_from(
     tails: &[u16],
     heads: &[u16],
     lengths: &[u32],
+    holds: &[u16],
     speeds: &[u8],
     source: usize,
     departure: u32,
     labels: &mut [u32],
     predecessors: &mut [u16],
 )
-    ensures labels { λ _. ⌜ (Labelable (lentNetwork junctions fences tails heads lengths speeds) source departure (now (labels .entry)) (now (predecessors .entry)) →
-        now (labels .exit) ≡ labelsOf (netOf (lentNetwork junctions fences tails heads lengths speeds)) source departure) ⌝ }
-    ensures predecessors { λ _. ⌜ (Labelable (lentNetwork junctions fences tails heads lengths speeds) source departure (now (labels .entry)) (now (predecessors .entry)) →
-        now (predecessors .exit) ≡ predecessorsOf (netOf (lentNetwork junctions fences tails heads lengths speeds)) source departure) ⌝ }
+    ensures labels { λ _. ⌜ (Labelable (lentNetwork junctions fences tails heads lengths holds speeds) source departure (now (labels .entry)) (now (predecessors .entry)) →
+        now (labels .exit) ≡ labelsOf (netOf (lentNetwork junctions fences tails heads lengths holds speeds)) source departure) ⌝ }
+    ensures predecessors { λ _. ⌜ (Labelable (lentNetwork junctions fences tails heads lengths holds speeds) source departure (now (labels .entry)) (now (predecessors .entry)) →
+        now (predecessors .exit) ≡ predecessorsOf (netOf (lentNetwork junctions fences tails heads lengths holds speeds)) source departure) ⌝ }
 {
     if !fits(
         junctions,
@@ -112,6 +115,7 @@ pub fn label_from(
         tails,
         heads,
         lengths,
+        holds,
         speeds,
         source,
         departure,
@@ -126,6 +130,7 @@ pub fn label_from(
         tails,
         heads,
         lengths,
+        holds,
         speeds,
         source,
         departure,

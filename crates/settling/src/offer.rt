@@ -1,6 +1,6 @@
 // The offers of a settled junction's arcs: each arc's arrival may lower its head's label.
 ghost use Rattle.settling.specs.code.Offering.{tables, HasArc, Offerable, Leaves, ArcOffered, Drivable, AllOffered};
-use driving::drive::drive;
+use driving::hold::drive_with_hold;
 use model::label::NO_ARC;
 use model::limit::MAX_ARCS;
 use model::limit::MAX_JUNCTIONS;
@@ -49,15 +49,16 @@ fn offer_arc(
     interval: u8,
     fences: &[u32],
     lengths: &[u32],
+    holds: &[u16],
     speeds: &[u8],
     labels: &mut [u32],
     predecessors: &mut [u16],
     intervals: &mut [u8; MAX_JUNCTIONS],
     tree: &mut [u32; NODES],
 )
-    requires { ⌜ HasArc a (now fences) (now lengths) (now speeds) ⌝ }
+    requires { ⌜ HasArc a (now fences) (now lengths) (now holds) (now speeds) ⌝ }
     requires { ⌜ Offerable head (tables (now labels) (now predecessors) (now intervals) (now tree)) ⌝ }
-    ensures { λ _. ⌜ ArcOffered (now (fences .entry)) (now (lengths .entry)) (now (speeds .entry)) a head tick interval
+    ensures { λ _. ⌜ ArcOffered (now (fences .entry)) (now (lengths .entry)) (now (holds .entry)) (now (speeds .entry)) a head tick interval
         (tables (now (labels .entry)) (now (predecessors .entry)) (now (intervals .entry)) (now (tree .entry)))
         (tables (now (labels .exit)) (now (predecessors .exit)) (now (intervals .exit)) (now (tree .exit))) ⌝ }
 {
@@ -65,10 +66,12 @@ fn offer_arc(
     let from = arc * fences.len();
     let to = from + fences.len();
     let leaves_in = interval as usize;
+    let metres = lengths[arc];
+    let hold = holds[arc] as u32;
     if let Arrival::At {
         tick: arrival,
         interval: arrives_in,
-    } = drive(tick, leaves_in, lengths[arc], fences, &speeds[from..to]) {
+    } = drive_with_hold(tick, leaves_in, metres, hold, fences, &speeds[from..to]) {
         // A byte holds every interval of a plan.
         let noted = arrives_in as u8;
         offer(
@@ -92,6 +95,7 @@ pub(crate) fn offer_arcs(
     fences: &[u32],
     heads: &[u16],
     lengths: &[u32],
+    holds: &[u16],
     speeds: &[u8],
     next: &[u16; MAX_ARCS],
     settled: &[bool; MAX_JUNCTIONS],
@@ -100,9 +104,9 @@ pub(crate) fn offer_arcs(
     intervals: &mut [u8; MAX_JUNCTIONS],
     tree: &mut [u32; NODES],
 )
-    requires { ⌜ Drivable first (now fences) (now heads) (now lengths) (now speeds) (now next)
+    requires { ⌜ Drivable first (now fences) (now heads) (now lengths) (now holds) (now speeds) (now next)
         (tables (now labels) (now predecessors) (now intervals) (now tree)) ⌝ }
-    ensures { λ _. ⌜ AllOffered (now (fences .entry)) (now (heads .entry)) (now (lengths .entry)) (now (speeds .entry)) (now (next .entry)) (now (settled .entry)) tick interval
+    ensures { λ _. ⌜ AllOffered (now (fences .entry)) (now (heads .entry)) (now (lengths .entry)) (now (holds .entry)) (now (speeds .entry)) (now (next .entry)) (now (settled .entry)) tick interval
         first (tables (now (labels .entry)) (now (predecessors .entry)) (now (intervals .entry)) (now (tree .entry)))
         (tables (now (labels .exit)) (now (predecessors .exit)) (now (intervals .exit)) (now (tree .exit))) ⌝ }
 {
@@ -120,6 +124,7 @@ pub(crate) fn offer_arcs(
                 interval,
                 fences,
                 lengths,
+                holds,
                 speeds,
                 labels,
                 predecessors,

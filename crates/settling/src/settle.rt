@@ -14,6 +14,7 @@ pub(crate) fn settle(
     fences: &[u32],
     heads: &[u16],
     lengths: &[u32],
+    holds: &[u16],
     speeds: &[u8],
     first: &[u16; MAX_JUNCTIONS],
     next: &[u16; MAX_ARCS],
@@ -23,9 +24,9 @@ pub(crate) fn settle(
     intervals: &mut [u8; MAX_JUNCTIONS],
     tree: &mut [u32; NODES],
 )
-    requires { ⌜ Settleable junction (now fences) (now heads) (now lengths) (now speeds) (now first) (now next)
+    requires { ⌜ Settleable junction (now fences) (now heads) (now lengths) (now holds) (now speeds) (now first) (now next)
         (tables (now labels) (now predecessors) (now intervals) (now tree)) ⌝ }
-    ensures { λ _. ⌜ Settles junction (now (fences .entry)) (now (heads .entry)) (now (lengths .entry)) (now (speeds .entry)) (now (first .entry)) (now (next .entry))
+    ensures { λ _. ⌜ Settles junction (now (fences .entry)) (now (heads .entry)) (now (lengths .entry)) (now (holds .entry)) (now (speeds .entry)) (now (first .entry)) (now (next .entry))
         (now (settled .entry)) (now (settled .exit))
         (tables (now (labels .entry)) (now (predecessors .entry)) (now (intervals .entry)) (now (tree .entry)))
         (tables (now (labels .exit)) (now (predecessors .exit)) (now (intervals .exit)) (now (tree .exit))) ⌝ }
@@ -39,6 +40,7 @@ pub(crate) fn settle(
         fences,
         heads,
         lengths,
+        holds,
         speeds,
         next,
         settled,

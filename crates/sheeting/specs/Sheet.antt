@@ -1,5 +1,5 @@
 -- "The station plans with a list of departures, 1 to 96 of them, from one source." "30, the list is empty or above 96, after 9; 31,
--- either buffer has the wrong length, in place of 11, after 10, which now covers every departure."
+-- either buffer has the wrong length, in place of 11, after 10, which now covers every departure." By order 5, 32 stands after 8.
 use Prim.Native.Nat.{ℕ, _*_, _≤_, _<_}
 use mathlib.Core.Path.{_≡_}
 use mathlib.Core.Bool.{Bool, not, _&&_}

@@ -14,13 +14,14 @@ pub(crate) fn write_rows(
     tails: &[u16],
     heads: &[u16],
     lengths: &[u32],
+    holds: &[u16],
     speeds: &[u8],
     source: usize,
     departures: &[u32],
     labels: &mut [u32],
 )
-    requires { ⌜ RowsAsked (networkIn junctions fences tails heads lengths speeds) source (now departures) (now labels) ⌝ }
-    ensures { λ _. ⌜ now (labels .exit) ≡ rowsOf (lentNetwork junctions fences tails heads lengths speeds) source (now (departures .entry)) ⌝ }
+    requires { ⌜ RowsAsked (networkIn junctions fences tails heads lengths holds speeds) source (now departures) (now labels) ⌝ }
+    ensures { λ _. ⌜ now (labels .exit) ≡ rowsOf (lentNetwork junctions fences tails heads lengths holds speeds) source (now (departures .entry)) ⌝ }
 {
     let mut predecessors = [NO_ARC; MAX_JUNCTIONS];
     let mut k = 0;
@@ -33,6 +34,7 @@ pub(crate) fn write_rows(
             tails,
             heads,
             lengths,
+            holds,
             speeds,
             source,
             departures[k],

@@ -42,11 +42,12 @@ fn shift_check(
     tails: &[u16],
     heads: &[u16],
     lengths: &[u32],
+    holds: &[u16],
     speeds: &[u8],
     source: u32,
     departures: &[u32],
 ) -> NetworkCheck
-    ensures { λ r. ⌜ networkOutcomeOf r ≡ shiftCheck (lentNetwork junctions fences tails heads lengths speeds) source (now (departures .entry)) ⌝ }
+    ensures { λ r. ⌜ networkOutcomeOf r ≡ shiftCheck (lentNetwork junctions fences tails heads lengths holds speeds) source (now (departures .entry)) ⌝ }
 {
     if let NetworkCheck::Refused(refusal) = network_check(
         junctions,
@@ -54,6 +55,7 @@ fn shift_check(
         tails,
         heads,
         lengths,
+        holds,
         speeds,
     ) {
         return NetworkCheck::Refused(refusal);
@@ -79,17 +81,18 @@ pub fn sheet(
     tails: &[u16],
     heads: &[u16],
     lengths: &[u32],
+    holds: &[u16],
     speeds: &[u8],
     source: u32,
     departures: &[u32],
     labels: &mut [u32],
     figures: &mut [u32],
 ) -> Sheeted
-    ensures answer { λ r. ⌜ outcomeOf r ≡ sheetAnswer (lentNetwork junctions fences tails heads lengths speeds) source (now (departures .entry)) (now (labels .entry)) (now (figures .entry)) ⌝ }
+    ensures answer { λ r. ⌜ outcomeOf r ≡ sheetAnswer (lentNetwork junctions fences tails heads lengths holds speeds) source (now (departures .entry)) (now (labels .entry)) (now (figures .entry)) ⌝ }
     ensures labels { λ _. ⌜ now (labels .exit) ≡
-        sheetLabelsAfter (lentNetwork junctions fences tails heads lengths speeds) source (now (departures .entry)) (now (labels .entry)) (now (figures .entry)) ⌝ }
+        sheetLabelsAfter (lentNetwork junctions fences tails heads lengths holds speeds) source (now (departures .entry)) (now (labels .entry)) (now (figures .entry)) ⌝ }
     ensures figures { λ _. ⌜ now (figures .exit) ≡
-        sheetFiguresAfter (lentNetwork junctions fences tails heads lengths speeds) source (now (departures .entry)) (now (labels .entry)) (now (figures .entry)) ⌝ }
+        sheetFiguresAfter (lentNetwork junctions fences tails heads lengths holds speeds) source (now (departures .entry)) (now (labels .entry)) (now (figures .entry)) ⌝ }
 {
     if let NetworkCheck::Refused(refusal) = shift_check(
         junctions,
@@ -97,6 +100,7 @@ pub fn sheet(
         tails,
         heads,
         lengths,
+        holds,
         speeds,
         source,
         departures,
@@ -116,6 +120,7 @@ pub fn sheet(
         tails,
         heads,
         lengths,
+        holds,
         speeds,
         source as usize,
         departures,

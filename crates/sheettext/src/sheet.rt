@@ -2,6 +2,7 @@
 ghost use mathlib.Core.Path.{_≡_};
 ghost use Prim.Native.Nat.{_*_, _≤_, min};
 ghost use lib.ListN.{length, take};
+ghost use Rattle.model.specs.Limits.{maxArcs};
 ghost use Rattle.model.specs.Lent.{lentNetwork, networkIn};
 ghost use Rattle.model.specs.NetworkRules.{networkCheck};
 ghost use Rattle.model.specs.Rules.{replied, written};
@@ -38,6 +39,7 @@ fn sheet_parts(
     tails: &[u16],
     heads: &[u16],
     lengths: &[u32],
+    holds: &[u16],
     speeds: &[u8],
     source: u32,
     departures: &[u32],
@@ -46,10 +48,10 @@ fn sheet_parts(
 ) -> Sheeted
     requires { ⌜ PartsFit junctions (now departures) (now labels) (now figures) ⌝ }
     ensures answer { λ r. ⌜ outcomeOf r ≡
-        sheetAnswer (lentNetwork junctions fences tails heads lengths speeds) source (now (departures .entry))
+        sheetAnswer (lentNetwork junctions fences tails heads lengths holds speeds) source (now (departures .entry))
         (take (length (now (departures .entry)) * junctions) (now (labels .entry))) (take (4 * junctions) (now (figures .entry))) ⌝ }
     ensures figures { λ _. ⌜ take (4 * junctions) (now (figures .exit)) ≡
-        sheetFiguresAfter (lentNetwork junctions fences tails heads lengths speeds) source (now (departures .entry))
+        sheetFiguresAfter (lentNetwork junctions fences tails heads lengths holds speeds) source (now (departures .entry))
         (take (length (now (departures .entry)) * junctions) (now (labels .entry))) (take (4 * junctions) (now (figures .entry))) ⌝ }
 {
     let count = junctions as usize;
@@ -61,6 +63,7 @@ fn sheet_parts(
         tails,
         heads,
         lengths,
+        holds,
         speeds,
         source,
         departures,
@@ -76,14 +79,15 @@ fn network_sheet(
     tails: &[u16],
     heads: &[u16],
     lengths: &[u32],
+    holds: &[u16],
     speeds: &[u8],
     source: u32,
     departures: &[u32],
     output: &mut [u8; 8192],
 ) -> usize
-    requires { ⌜ networkCheck (networkIn junctions fences tails heads lengths speeds) ≡ replied tt ⌝ }
+    requires { ⌜ networkCheck (networkIn junctions fences tails heads lengths holds speeds) ≡ replied tt ⌝ }
     requires { ⌜ length (now departures) ≤ 97 ⌝ }
-    ensures { λ r. ⌜ Printed (textOf (networkSheet (lentNetwork junctions fences tails heads lengths speeds) source (now (departures .entry))))
+    ensures { λ r. ⌜ Printed (textOf (networkSheet (lentNetwork junctions fences tails heads lengths holds speeds) source (now (departures .entry))))
         (now (output .entry)) (now (output .exit)) r ⌝ }
 {
     let mut labels = [0u32; LISTED * MAX_JUNCTIONS];
@@ -94,6 +98,7 @@ fn network_sheet(
         tails,
         heads,
         lengths,
+        holds,
         speeds,
         source,
         departures,
@@ -119,6 +124,7 @@ fn loaded_sheet(
     departures: &[u32],
     output: &mut [u8; 8192],
 ) -> usize
+    requires { ⌜ arcs ≤ maxArcs ⌝ }
     requires { ⌜ LongEnough (counts junctions intervals arcs) (tablesIn fences tails heads lengths speeds) ⌝ }
     requires { ⌜ networkCheck (networkAt (counts junctions intervals arcs) (tablesIn fences tails heads lengths speeds)) ≡ replied tt ⌝ }
     requires { ⌜ length (now departures) ≤ 97 ⌝ }
@@ -128,12 +134,15 @@ fn loaded_sheet(
     let width = intervals as usize;
     let count = arcs as usize;
     let speed_count = count * width;
+    // Town files have hold 0.
+    let holds = [0u16; MAX_ARCS];
     network_sheet(
         junctions,
         &fences[..width],
         &tails[..count],
         &heads[..count],
         &lengths[..count],
+        &holds[..count],
         &speeds[..speed_count],
         source,
         departures,

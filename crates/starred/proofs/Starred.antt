@@ -12,11 +12,13 @@ use lib.ListN.{getD}
 use borrow.Author.Tests.{ltb-true}
 use Rattle.model.specs.Ticks.{day}
 use Rattle.model.specs.Flow.{covered, firstTick, arrival}
+use Rattle.model.specs.Holds.{arrivalWithHold}
 use Rattle.model.specs.Intervals.{FencesKept, intervalOf, passed, speedAt, tickAndInterval?}
 use Rattle.model.specs.Labels.{offer, offers, within, labelsOf}
 use Rattle.model.specs.Network.{Network, network, netOf, speedOn, driveOf}
 use Rattle.model.specs.NetworkRules.{endsKeep, networkCheck}
 use Rattle.model.specs.Rules.{replied, firstBroken, every, riseFrom, fencesKeep}
+use Rattle.model.proofs.Holds.{no-hold}
 use Rattle.model.proofs.IntervalPieces.{interval-is-piece}
 use Rattle.model.proofs.NetworkRules.{accepts-when-kept}
 use Rattle.model.proofs.Pieces.{arrival-over-piece}
@@ -33,7 +35,7 @@ use Rattle.townfile.specs.Tables.{marked, townOf}
 use Rattle.townfile.specs.Load.{Tables, loadAnswer, tablesAfter}
 use Rattle.townfile.specs.declared.progress.Progress.{Progress}
 use Rattle.townfile.proofs.Described.{describes-when-faultless}
-use Rattle.starred.specs.Rows.{Row, LabelsAre, Holds, _also_, no-more, sampleText, sampleWithoutComment, StarredRows}
+use Rattle.starred.specs.Rows.{Row, LabelsAre, Claims, _also_, no-more, sampleText, sampleWithoutComment, StarredRows}
 
 -- From midnight on the first tick covers the rest.
 driven-on : arrival (speedAt (0 ∷ 100 ∷ []) (36 ∷ 0 ∷ [])) 36 day ≡ 864001
@@ -41,9 +43,9 @@ unfolding speedAt intervalOf passed arrival firstTick covered
 driven-on = refl
 
 -- An arc that comes to stand short of its end is driven on after midnight: its two intervals are pieces of constant speed.
-standing-row : Holds (Row.arc 2 (0 ∷ 100 ∷ []) (36 ∷ 0 ∷ []) 99 0 (some (864001, 0)))
+standing-row : Claims (Row.arc 2 (0 ∷ 100 ∷ []) (36 ∷ 0 ∷ []) 99 0 (some (864001, 0)))
 unfolding arcArrival firstBroken every riseFrom fencesKeep intervalOf passed
-standing-row = ap (λ (t : ℕ). replied (tickAndInterval? (0 ∷ 100 ∷ []) t)) (moves ∙ stands ∙ driven-on)
+standing-row = ap (λ (t : ℕ). replied (tickAndInterval? (0 ∷ 100 ∷ []) t)) (no-hold v 72 99 ∙ moves ∙ stands ∙ driven-on)
   where
     v : ℕ → ℕ
     v = speedAt (0 ∷ 100 ∷ []) (36 ∷ 0 ∷ [])
@@ -103,7 +105,7 @@ sample-described = describes sampleText sample-read refl (scanned .0)
 
 -- The network that the lines give.
 abbrev sampleNetwork : Network
-sampleNetwork = network 3 (0 ∷ 100 ∷ []) (0 ∷ 0 ∷ 1 ∷ []) (1 ∷ 2 ∷ 2 ∷ []) (50 ∷ 100 ∷ 50 ∷ []) (36 ∷ 18 ∷ 40 ∷ 20 ∷ 36 ∷ 36 ∷ [])
+sampleNetwork = network 3 (0 ∷ 100 ∷ []) (0 ∷ 0 ∷ 1 ∷ []) (1 ∷ 2 ∷ 2 ∷ []) (50 ∷ 100 ∷ 50 ∷ []) (0 ∷ 0 ∷ 0 ∷ []) (36 ∷ 18 ∷ 40 ∷ 20 ∷ 36 ∷ 36 ∷ [])
 
 sample-network : networkOf (townOf sampleText) ≡ sampleNetwork
 unfolding joined pieces upTo onFirst decimalFrom markOf marked townOf flatten
@@ -114,15 +116,15 @@ unfolding networkCheck firstBroken every riseFrom fencesKeep endsKeep
 sample-checked = refl
 
 sample-labels : labelsOf (netOf sampleNetwork) 0 10 ≡ 10 ∷ 60 ∷ 100 ∷ []
-unfolding labelsOf within offers offer driveOf speedOn speedAt intervalOf passed arrival firstTick covered
+unfolding labelsOf within offers offer driveOf arrivalWithHold speedOn speedAt intervalOf passed arrival firstTick covered
 sample-labels = refl
 
-town-row : Holds (Row.town sampleText 0 10 (10 ∷ 60 ∷ 100 ∷ []))
+town-row : Claims (Row.town sampleText 0 10 (10 ∷ 60 ∷ 100 ∷ []))
 town-row =
     let labelled = labels-are sampleNetwork 0 10 (10 ∷ 60 ∷ 100 ∷ []) sample-checked (omega arith) (omega arith) sample-labels in
     (townOf sampleText, sample-described, subst (λ (N : Network). LabelsAre N 0 10 (10 ∷ 60 ∷ 100 ∷ [])) (sym sample-network) labelled)
 
-alike-row : Holds (Row.alike sampleText sampleWithoutComment)
+alike-row : Claims (Row.alike sampleText sampleWithoutComment)
 unfolding joined every
 alike-row = (
   townOf sampleText,
@@ -133,12 +135,12 @@ alike-row = (
 
 -- ---- All rows
 
-empty-row : Holds (Row.refuses [] 27 1)
+empty-row : Claims (Row.refuses [] 27 1)
 unfolding pieces linesFrom firstFault
 empty-row = refused-text [] 27 1 refl
 
 pub starred-rows : StarredRows
-unfolding arcArrival firstBroken every riseFrom fencesKeep speedAt intervalOf passed arrival firstTick covered
+unfolding arcArrival arrivalWithHold firstBroken every riseFrom fencesKeep speedAt intervalOf passed arrival firstTick covered
 starred-rows =
     refl
     also refl

@@ -1,5 +1,6 @@
 -- "Reckonings to keep. Starred ones form the proved set. A row is length; fences; speeds; departure; arrival." Document 02, order 2: "The
--- starred row with length 2 and departure 99 now arrives at 864,001." By order 3 a row has the interval of the departure and that of the arrival.
+-- starred row with length 2 and departure 99 now arrives at 864,001." By order 3 a row has the interval of the departure and that of the
+-- arrival. By order 5 "the rows to keep (..) have hold 0".
 use Prim.Native.Nat.{ℕ}
 use mathlib.Core.Path.{_≡_}
 use mathlib.Core.List.{List, [], _∷_, _++_}
@@ -28,18 +29,18 @@ LabelsAre N source departure expected = (labels predecessors : List ℕ) → len
 
 -- What a row claims, from the definitions of the operations. The labels of a text are those of the town that it describes. Texts load
 -- alike, or are refused, whatever tables are lent.
-abbrev pub Holds : Row → Type 0
-Holds (arc metres fences speeds departure interval arrival) = arcArrival departure interval metres fences speeds ≡ replied arrival
-Holds (town text source departure expected) = (T : Town) × Describes text T × LabelsAre (networkOf T) source departure expected
-Holds (alike text text′) = (T : Town) × Describes text T × Describes text′ T
+abbrev pub Claims : Row → Type 0
+Claims (arc metres fences speeds departure interval arrival) = arcArrival departure interval metres 0 fences speeds ≡ replied arrival
+Claims (town text source departure expected) = (T : Town) × Describes text T × LabelsAre (networkOf T) source departure expected
+Claims (alike text text′) = (T : Town) × Describes text T × Describes text′ T
     × ((lent : Tables) → (loadAnswer text lent ≡ loadAnswer text′ lent) × (tablesAfter text lent ≡ tablesAfter text′ lent))
-Holds (refuses text number line) = (lent : Tables) → (loadAnswer text lent ≡ refusedAt number line) × (tablesAfter text lent ≡ lent)
+Claims (refuses text number line) = (lent : Tables) → (loadAnswer text lent ≡ refusedAt number line) × (tablesAfter text lent ≡ lent)
 
 infixr 5 _also_
 -- Every row of a list holds.
 pub data AllHold : List Row → Type 0 where
   no-more : AllHold []
-  _also_ : {row : Row} {rows : List Row} → Holds row → AllHold rows → AllHold (row ∷ rows)
+  _also_ : {row : Row} {rows : List Row} → Claims row → AllHold rows → AllHold (row ∷ rows)
 
 -- The sample town's lines, without its comment, and with it at the end.
 abbrev pub sampleLines : List (List ℕ)

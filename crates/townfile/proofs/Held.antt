@@ -1,19 +1,20 @@
 -- A town in the tables: after a text is loaded its town's network stands at their start, of as many entries as the counts say; and
 -- tables with room for every town take every text that describes one.
-use Prim.Native.Nat.{ℕ, _*_, _≤_}
-use mathlib.Core.Path.{_≡_, refl, sym, _∙_}
-use mathlib.Core.List.{List}
+use Prim.Native.Nat.{ℕ, zero, suc, _*_, _≤_}
+use mathlib.Core.Path.{_≡_, refl, sym, ap, _∙_}
+use mathlib.Core.List.{List, [], _∷_, map}
 use native.Mathlib.Nat.{mul-le-mul}
 use native.Mathlib.Omega.{arith}
-use lib.ListN.{length, take, drop, replicate, length-append, length-replicate}
+use lib.ListN.{length, getD, take, drop, replicate, length-append, length-replicate, length-map}
 use lib.Seq.{take-append-seam}
 use Rattle.model.specs.Limits.{maxArcs, maxIntervals}
-use Rattle.model.specs.Network.{Network, Accepted, arcs, intervals}
+use Rattle.model.specs.Network.{Network, Accepted, arcs, intervals, driveOf}
+use Rattle.model.proofs.Holds.{no-hold}
 use Rattle.model.specs.Rules.{written}
 use Rattle.townfile.specs.FirstFault.{accepted}
-use Rattle.townfile.specs.Grammar.{Bytes, Town, Describes, networkOf}
-use Rattle.townfile.specs.Tables.{townOf}
-use Rattle.townfile.specs.Load.{Counts, counts, Tables, LongEnough, roomyTables, networkAt, countsOfTown, loadAnswer, holding, tablesAfter}
+use Rattle.townfile.specs.Grammar.{Bytes, Arc, Town, Describes, networkOf}
+use Rattle.townfile.specs.Tables.{townOf, TownsAreNotHeld}
+use Rattle.townfile.specs.Load.{Counts, counts, Tables, LongEnough, roomyTables, noHolds, networkAt, countsOfTown, loadAnswer, holding, tablesAfter}
 use Rattle.townfile.proofs.Described.{described-town}
 use Rattle.townfile.proofs.Load.{long-fits, described-answer, load-accepts-when-described}
 
@@ -29,9 +30,10 @@ written-start entries table e = rw e (take-append-seam entries (drop (length ent
 pub record Stands (N : Network) (reply : Counts) (held : Tables) : Type 0 where
   pub long : LongEnough reply held
   pub is-network : networkAt reply held ≡ N
+  pub few-arcs : reply .arcs ≤ maxArcs
 
-holding-stands : (N : Network) → Accepted N → (lent : Tables) → Stands N (counts (N .junctions) (intervals N) (arcs N)) (holding N lent)
-holding-stands N kept lent =
+holding-stands : (N : Network) → Accepted N → N .holds ≡ take (arcs N) noHolds → (lent : Tables) → Stands N (counts (N .junctions) (intervals N) (arcs N)) (holding N lent)
+holding-stands N kept holds-are lent =
     let heads = sym (kept .heads-long) in
     let lengths = sym (kept .lengths-long) in
     let speeds = sym (kept .speeds-long) in
@@ -48,8 +50,29 @@ holding-stands N kept lent =
         lengths-long = written-long (N .lengths) (lent .lengths) lengths;
         speeds-long = written-long (N .speeds) (lent .speeds) speeds;
       };
-      is-network = rw (fences-start, tails-start, heads-start, lengths-start, speeds-start);
+      is-network = rw (fences-start, tails-start, heads-start, lengths-start, ← holds-are, speeds-start);
+      few-arcs = kept .arcs-fit;
     }
+
+-- A town has no holds.
+zeros-taken : (given : List Arc) (room : ℕ) → length given ≤ room → map {B = ℕ} (λ a. 0) given ≡ take (length given) (replicate room 0)
+zeros-taken [] room few = refl
+zeros-taken (arc ∷ rest) zero few = absurd (omega arith)
+zeros-taken (arc ∷ rest) (suc room) few = ap (λ (zeros : List ℕ). 0 ∷ zeros) (zeros-taken rest room (omega arith))
+
+zeros-at : (given : List Arc) (a : ℕ) → getD (map {B = ℕ} (λ arc. 0) given) a 0 ≡ 0
+zeros-at [] a = refl
+zeros-at (arc ∷ rest) zero = refl
+zeros-at (arc ∷ rest) (suc a) = zeros-at rest a
+
+pub towns-are-not-held : TownsAreNotHeld
+unfolding driveOf
+towns-are-not-held T a t = rw (zeros-at (T .arcs) a) (no-hold _ _ t)
+
+town-unheld : (T : Town) → Accepted (networkOf T) → networkOf T .holds ≡ take (arcs (networkOf T)) noHolds
+town-unheld T kept =
+    let count = length-map (T .arcs) (λ a. a .tail) in
+    rw count (zeros-taken (T .arcs) maxArcs (omega (arith, count, kept .arcs-fit)))
 
 pub loaded-stands : (text : List ℕ) (lent : Tables) {reply : Counts} {held : Tables} → Bytes text → accepted reply ≡ loadAnswer text lent →
     held ≡ tablesAfter text lent → Stands (networkOf (townOf text)) reply held
@@ -58,7 +81,9 @@ loaded-stands text lent {reply} {held} bytes e are =
     go (found .0) (found .1) (found .3) (are ∙ found .4)
   where
     go : (T : Town) → Describes text T → reply ≡ countsOfTown T → held ≡ holding (networkOf T) lent → Stands (networkOf (townOf text)) reply held
-    go T described counted holds = rw (described-town described, counted, holds) (holding-stands (networkOf T) (described .kept .network-accepted) lent)
+    go T described counted holds =
+        let kept = described .kept .network-accepted in
+        rw (described-town described, counted, holds) (holding-stands (networkOf T) kept (town-unheld T kept) lent)
 
 -- ---- Room for every town
 

@@ -10,7 +10,7 @@ use lib.ListN.{length, getD, length-append, length-map}
 use borrow.Author.Tests.{not-false, le-ltb, eq-eqb}
 use Rattle.model.specs.Limits.{maxArcs}
 use Rattle.model.specs.NetworkRules.{junctionsKeep, endsKeep}
-use Rattle.model.specs.Rules.{every, countKeeps, fencesKeep, lengthKeeps, speedKeeps}
+use Rattle.model.specs.Rules.{every, countKeeps, fencesKeep, lengthKeeps, speedKeeps, holdKeeps}
 use Rattle.model.proofs.Rules.{true-both, both-true}
 use Rattle.model.proofs.NetworkRules.{kept-accepted, accepted-kept}
 use Rattle.townfile.specs.Grammar.{Named, Arc, Town, networkOf, numbersOfNames, Each, TownKept}
@@ -63,18 +63,20 @@ module _ (junctions intervals : ℕ) where
   record ArcsKept (arcs : List Arc) : Type 0 where
     ends : endsKeep junctions (map (λ a. a .tail) arcs) (map (λ a. a .head) arcs) ≡ true
     lengths : every lengthKeeps (map (λ a. a .metres) arcs) ≡ true
+    holds : every holdKeeps (map (λ a. 0) arcs) ≡ true
     speeds : every speedKeeps (flatten (map (λ a. a .speeds) arcs)) ≡ true
     counts : Each (λ a. length (a .speeds) ≡ intervals) arcs
     count : length (flatten (map (λ a. a .speeds) arcs)) ≡ length arcs * intervals
 
   arcs-joined : (arcs : List Arc) → Each (ArcTested junctions intervals) arcs → ArcsKept arcs
   unfolding endsKeep every flatten Each
-  arcs-joined [] kept = record { ends = refl; lengths = refl; speeds = refl; counts = tt; count = omega arith }
+  arcs-joined [] kept = record { ends = refl; lengths = refl; holds = refl; speeds = refl; counts = tt; count = omega arith }
   arcs-joined (arc ∷ arcs) kept =
       let rest = arcs-joined arcs (kept .1) in
       record {
         ends = both-true (kept .0 .ends-keep) (rest .ends);
         lengths = both-true (kept .0 .length-keeps) (rest .lengths);
+        holds = rest .holds;
         speeds = every-append speedKeeps (arc .speeds) (flatten (map (λ a. a .speeds) arcs)) ∙ both-true (kept .0 .speeds-keep) (rest .speeds);
         counts = (kept .0 .per-interval, rest .counts);
         count = rw (length-append, suc-mul, rest .count, kept .0 .per-interval) (omega arith);
@@ -119,8 +121,9 @@ parts-kept {T} parts =
           (
             le-ltb maxArcs (length (map (λ a. a .tail) (T .arcs))) (rw length-map (parts .arcs-few)),
             (
-              ap not (both-true (both-true (eq-eqb _ _ (as-long (λ a. a .head))) (eq-eqb _ _ (as-long (λ a. a .metres)))) (eq-eqb _ _ speeds-long)),
-              (ap not (parts .fences-keep), (ap not (arcs .ends), (ap not (arcs .lengths), (ap not (arcs .speeds), tt)))),
+              ap not
+                  (both-true (both-true (both-true (eq-eqb _ _ (as-long (λ a. a .head))) (eq-eqb _ _ (as-long (λ a. a .metres)))) (eq-eqb _ _ (as-long (λ a. 0)))) (eq-eqb _ _ speeds-long)),
+              (ap not (parts .fences-keep), (ap not (arcs .ends), (ap not (arcs .lengths), (ap not (arcs .speeds), (ap not (arcs .holds), tt))))),
             ),
           ),
         ),

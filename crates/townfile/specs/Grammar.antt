@@ -57,7 +57,7 @@ pub record Town : Type 0 where
   pub names : List Named
   pub arcs : List Arc
 
--- The town's network: a table for each of the arcs' fields, and "the speeds arc by arc".
+-- The town's network: a table for each of the arcs' fields, and "the speeds arc by arc". Document 02, order 5: "Town files so far (..) have hold 0".
 abbrev pub networkOf : Town → Network
 networkOf T = record {
   junctions = T .junctions;
@@ -65,6 +65,7 @@ networkOf T = record {
   tails = map (λ a. a .tail) (T .arcs);
   heads = map (λ a. a .head) (T .arcs);
   lengths = map (λ a. a .metres) (T .arcs);
+  holds = map (λ a. 0) (T .arcs);
   speeds = flatten (map (λ a. a .speeds) (T .arcs));
 }
 

@@ -54,6 +54,10 @@ roomyTables = record {
   speeds = replicate (maxArcs * maxIntervals) 0;
 }
 
+-- Load fills no holds: those of a loaded town are zeros, with room for every town.
+abbrev pub noHolds : List ℕ
+noHolds = replicate maxArcs 0
+
 -- The network at the tables' start, of as many entries as the counts say.
 abbrev pub networkAt : Counts → Tables → Network
 networkAt asked held = record {
@@ -62,6 +66,7 @@ networkAt asked held = record {
   tails = take (asked .arcs) (held .tails);
   heads = take (asked .arcs) (held .heads);
   lengths = take (asked .arcs) (held .lengths);
+  holds = take (asked .arcs) noHolds;
   speeds = take (asked .arcs * asked .intervals) (held .speeds);
 }
 

@@ -11,16 +11,18 @@ pub enum Operation {
     Load,
     Labels,
     LabelsEvening,
+    LabelsHeld,
     Route,
     Sheet,
     HostQuestion,
 }
 
 impl Operation {
-    pub const ALL: [Self; 6] = [
+    pub const ALL: [Self; 7] = [
         Self::Load,
         Self::Labels,
         Self::LabelsEvening,
+        Self::LabelsHeld,
         Self::Route,
         Self::Sheet,
         Self::HostQuestion,
@@ -31,14 +33,19 @@ impl Operation {
             Self::Load => "load",
             Self::Labels => "labels",
             Self::LabelsEvening => "labels-evening",
+            Self::LabelsHeld => "labels-held",
             Self::Route => "route",
             Self::Sheet => "sheet",
             Self::HostQuestion => "host-question",
         }
     }
 
-    fn takes_full_town(self) -> bool {
-        matches!(self, Self::Labels | Self::LabelsEvening | Self::Sheet)
+    /// Whether it is measured on this town; the full one has no text that Load takes.
+    pub fn takes(self, town: &str) -> bool {
+        match self {
+            Self::Labels | Self::LabelsEvening | Self::LabelsHeld | Self::Sheet => true,
+            Self::Load | Self::Route | Self::HostQuestion => town != "full",
+        }
     }
 }
 
@@ -79,18 +86,19 @@ pub struct Row {
 impl Row {
     pub fn named(operation: &str, town: &str) -> Option<Self> {
         let named = |one: &Operation| one.name() == operation;
-        Some(Self {
-            operation: Operation::ALL.into_iter().find(named)?,
-            town: Town::named(town)?,
-        })
+        let operation = Operation::ALL.into_iter().find(named)?;
+        let mut town = Town::named(town)?;
+        if operation == Operation::LabelsHeld {
+            town = town.with_holds();
+        }
+        Some(Self { operation, town })
     }
 
-    /// All rows; the full town has no text that Load takes.
     pub fn all() -> Vec<Self> {
         let mut rows = Vec::new();
         for operation in Operation::ALL {
             for town in Town::NAMES {
-                if town != "full" || operation.takes_full_town() {
+                if operation.takes(town) {
                     rows.extend(Self::named(operation.name(), town));
                 }
             }
@@ -103,7 +111,7 @@ impl Row {
         let operations = implementation.operations();
         match self.operation {
             Operation::Load => load(operations, &self.town),
-            Operation::Labels => labels(operations, &self.town, DEPARTURE),
+            Operation::Labels | Operation::LabelsHeld => labels(operations, &self.town, DEPARTURE),
             Operation::LabelsEvening => labels(operations, &self.town, EVENING),
             Operation::Route => route(operations, &self.town),
             Operation::Sheet => sheet(operations, &self.town),

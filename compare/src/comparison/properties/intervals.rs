@@ -1,12 +1,12 @@
 //! Properties of the interval that Arc arrival is given, and of the one it gives back
 //! for the next arc.
 
-use super::{arrival_at, cabinet_labels, driven};
+use super::{arrival_at, cabinet_labels, cabinet_reply, driven};
 use crate::cabinet;
 use crate::comparison::answers::{shown, shown_arc};
 use crate::comparison::{Check, Difference, Outcome};
 use crate::inputs::networks::{
-    random_arc, random_arc_departure, random_departure, random_network, random_path,
+    LoneArc, random_arc, random_arc_departure, random_departure, random_network, random_path,
 };
 use crate::inputs::{OwnedNetwork, Random};
 use crate::reference::limits::{DAY, NO_ARC, UNREACHED};
@@ -57,20 +57,20 @@ fn contains(fences: &[u32], interval: u32, tick: u32) -> bool {
 
 /// Of all intervals that may be given, one alone is not 46: that of the departure.
 fn one_interval(random: &mut Random) -> Result<Outcome, Difference> {
-    let (length, fences, speeds) = random_arc(random);
-    let departure = random_arc_departure(random, &fences);
-    let count = fences.len() as u32;
+    let arc = random_arc(random);
+    let departure = random_arc_departure(random, &arc.fences);
+    let count = arc.fences.len() as u32;
     let mut outcome = None;
     for interval in (0..count + 2).chain([u32::MAX]) {
-        let reply = cabinet::arc_arrival(departure, interval, length, &fences, &speeds);
-        let right = contains(&fences, interval, departure);
+        let reply = cabinet_reply(&arc, departure, interval);
+        let right = contains(&arc.fences, interval, departure);
         match reply {
             Ok(arrival) if right => outcome = Some(driven(arrival)),
             Err(Refusal(46)) if !right => {}
             _ => {
                 return Err(Difference {
-                    question: format!("length {length}, leaving at {departure} in {interval}"),
-                    input: shown_arc(&fences, &speeds),
+                    question: format!("{arc}, leaving at {departure} in {interval}"),
+                    input: shown_arc(&arc),
                     expected: if right { "an answer" } else { "number 46" }.to_owned(),
                     found: format!("{reply:?}"),
                 });
@@ -84,13 +84,14 @@ fn one_interval(random: &mut Random) -> Result<Outcome, Difference> {
 /// gave back: it contains the tick and so is never refused. Nothing is found where one
 /// of them cannot be driven.
 fn intervals_passed_on(random: &mut Random) -> Result<Outcome, Difference> {
-    let (_, fences, _) = random_arc(random);
+    let LoneArc { fences, .. } = random_arc(random);
     let departure = random_arc_departure(random, &fences);
     let mut start = arrival_at(&fences, departure);
     for _ in 0..random.up_to_one_of(&[2, 20]) {
-        let (length, _, mut speeds) = random_arc(random);
-        speeds.resize(fences.len(), random.below(100) as u8);
-        let reply = cabinet::arc_arrival(start.tick, start.interval, length, &fences, &speeds);
+        let mut arc = random_arc(random);
+        arc.speeds.resize(fences.len(), random.below(100) as u8);
+        arc.fences.clone_from(&fences);
+        let reply = cabinet_reply(&arc, start.tick, start.interval);
         match reply {
             Ok(Some(arrival)) if contains(&fences, arrival.interval, arrival.tick) => {
                 start = arrival;
@@ -98,8 +99,8 @@ fn intervals_passed_on(random: &mut Random) -> Result<Outcome, Difference> {
             Ok(None) => return Ok(Outcome::Nothing),
             _ => {
                 return Err(Difference {
-                    question: format!("length {length}, leaving with {start:?}"),
-                    input: shown_arc(&fences, &speeds),
+                    question: format!("{arc}, leaving with {start:?}"),
+                    input: shown_arc(&arc),
                     expected: "a tick and the interval that contains it".to_owned(),
                     found: format!("{reply:?}"),
                 });
@@ -178,9 +179,9 @@ fn arrival_on(network: &OwnedNetwork, arc: usize, reached: &[Option<Arrival>]) -
 fn drive(network: &OwnedNetwork, arc: usize, start: Arrival) -> Option<Arrival> {
     let Arrival { tick, interval } = start;
     let network = network.lent();
-    let length = network.lengths[arc];
+    let (length, hold) = (network.lengths[arc], network.holds[arc].into());
     let speeds = network.arc_speeds(arc);
-    let reply = cabinet::arc_arrival(tick, interval, length, network.fences, speeds);
+    let reply = cabinet::arc_arrival(tick, interval, length, hold, network.fences, speeds);
     reply.expect("a good arc, left in the interval given back")
 }
 

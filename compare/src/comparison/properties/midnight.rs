@@ -1,8 +1,7 @@
 //! Properties of speeds that start again at midnight: of an arc left a day later,
 //! and of a town whose day starts at another tick.
 
-use super::{cabinet_labels, driven};
-use crate::cabinet;
+use super::{cabinet_labels, cabinet_reply, driven};
 use crate::comparison::answers::{shown, shown_arc};
 use crate::comparison::{Check, Difference, Outcome};
 use crate::inputs::Random;
@@ -32,13 +31,10 @@ pub const LABELS_ROTATED: Check = Check {
 /// that drive goes on after midnight.
 fn day_later(random: &mut Random) -> Result<Outcome, Difference> {
     loop {
-        let (length, fences, speeds) = random_arc(random);
-        let departure = random_departure_of_first_day(random, &fences);
-        let interval = interval_at(&fences, departure);
-        let arrival = |departure| {
-            let reply = cabinet::arc_arrival(departure, interval, length, &fences, &speeds);
-            reply.expect("a good arc")
-        };
+        let arc = random_arc(random);
+        let departure = random_departure_of_first_day(random, &arc.fences);
+        let interval = interval_at(&arc.fences, departure);
+        let arrival = |departure| cabinet_reply(&arc, departure, interval).expect("a good arc");
         let first = arrival(departure);
         let a_day_after = first.map(|Arrival { tick, interval }| Arrival {
             tick: tick + DAY,
@@ -48,8 +44,8 @@ fn day_later(random: &mut Random) -> Result<Outcome, Difference> {
         let found = arrival(departure + DAY);
         if found != expected {
             return Err(Difference {
-                question: format!("length {length}, leaving at {departure} and a day later"),
-                input: shown_arc(&fences, &speeds),
+                question: format!("{arc}, leaving at {departure} and a day later"),
+                input: shown_arc(&arc),
                 expected: format!("{expected:?} after {first:?}"),
                 found: format!("{found:?}"),
             });

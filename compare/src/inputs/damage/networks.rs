@@ -1,12 +1,12 @@
 use crate::inputs::{OwnedNetwork, Random};
 use crate::reference::limits::{
-    DAY, MAX_ARCS, MAX_INTERVALS, MAX_JUNCTIONS, MAX_LENGTH, MAX_SPEED,
+    DAY, MAX_ARCS, MAX_HOLD, MAX_INTERVALS, MAX_JUNCTIONS, MAX_LENGTH, MAX_SPEED,
 };
 
 /// Breaks one rule of Network check, or several at once.
 pub fn damage_network(random: &mut Random, network: &mut OwnedNetwork) {
     for _ in 0..random.up_to_one_of(&[1, 1, 3]) {
-        match random.below(8) {
+        match random.below(9) {
             0 => network.junctions = random.pick(&[0, MAX_JUNCTIONS + 1, u32::MAX]),
             1 => resize_fences(random, network),
             2 => add_too_many_arcs(network),
@@ -14,7 +14,8 @@ pub fn damage_network(random: &mut Random, network: &mut OwnedNetwork) {
             4 => damage_fences(random, &mut network.fences),
             5 => damage_ends(random, network),
             6 => replace_one(random, &mut network.lengths, &[0, MAX_LENGTH + 1, u32::MAX]),
-            _ => replace_one(random, &mut network.speeds, &[MAX_SPEED + 1, u8::MAX]),
+            7 => replace_one(random, &mut network.speeds, &[MAX_SPEED + 1, u8::MAX]),
+            _ => damage_holds(random, &mut network.holds),
         }
     }
 }
@@ -33,10 +34,11 @@ fn add_too_many_arcs(network: &mut OwnedNetwork) {
     network.tails.resize(arcs, 0);
     network.heads.resize(arcs, 1);
     network.lengths.resize(arcs, 1);
+    network.holds.resize(arcs, 0);
     network.speeds.resize(arcs * network.fences.len(), 1);
 }
 
-/// Makes one table longer or shorter by one.
+/// Makes one table longer or shorter by one; `damage_holds` does so with the holds.
 fn resize_table(random: &mut Random, network: &mut OwnedNetwork) {
     let longer = random.one_in(2);
     match random.below(4) {
@@ -52,6 +54,16 @@ fn resize<T>(longer: bool, table: &mut Vec<T>, value: T) {
         table.push(value);
     } else {
         table.pop();
+    }
+}
+
+/// Makes the table longer or shorter, or one hold in it too long.
+pub fn damage_holds(random: &mut Random, holds: &mut Vec<u16>) {
+    match random.below(6) {
+        0 => resize(true, holds, 0),
+        1 => resize(false, holds, 0),
+        2 => holds.clear(),
+        _ => replace_one(random, holds, &[MAX_HOLD + 1, u16::MAX]),
     }
 }
 

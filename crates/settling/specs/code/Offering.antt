@@ -8,7 +8,8 @@ use lib.Dec.{ltb, eqb}
 use lib.ListN.{length, getD, set}
 use Rattle.model.specs.Limits.{maxJunctions, maxArcs, maxIntervals}
 use Rattle.model.specs.Labels.{noArc}
-use Rattle.model.specs.Flow.{spansOf, arrival}
+use Rattle.model.specs.Flow.{spansOf}
+use Rattle.model.specs.Holds.{arrivalWithHold}
 use Rattle.model.specs.Intervals.{speedAt, tickAndInterval?}
 use Rattle.model.specs.Network.{arcSpeeds}
 use Rattle.driving.specs.ArcKept.{ArcKept}
@@ -26,14 +27,14 @@ tables labels predecessors intervals tree = record { labels = labels; predecesso
 
 -- ---- An arc's offer
 
--- The arrival on an arc that is left at a tick, from the tables that an offer is lent.
-abbrev pub arrivalOn : List ℕ → List ℕ → List ℕ → ℕ → ℕ → ℕ
-arrivalOn fences lengths speeds a t = arrival (speedAt fences (arcSpeeds fences speeds a)) (spansOf (getD lengths a 0)) t
+-- The arrival with its hold on an arc that is left at a tick, from the tables that an offer is lent.
+abbrev pub arrivalOn : List ℕ → List ℕ → List ℕ → List ℕ → ℕ → ℕ → ℕ
+arrivalOn fences lengths holds speeds a t = arrivalWithHold (speedAt fences (arcSpeeds fences speeds a)) (spansOf (getD lengths a 0)) (getD holds a 0) t
 
 -- What driving the arc comes to, where the arc keeps the rules.
-abbrev pub ArrivesOn : List ℕ → List ℕ → List ℕ → ℕ → ℕ → ℕ → Option (ℕ × ℕ) → Type 0
-ArrivesOn fences lengths speeds a tick interval arrived =
-    ArcKept tick interval (getD lengths a 0) fences (arcSpeeds fences speeds a) → arrived ≡ tickAndInterval? fences (arrivalOn fences lengths speeds a tick)
+abbrev pub ArrivesOn : List ℕ → List ℕ → List ℕ → List ℕ → ℕ → ℕ → ℕ → Option (ℕ × ℕ) → Type 0
+ArrivesOn fences lengths holds speeds a tick interval arrived =
+    ArcKept tick interval (getD lengths a 0) fences (arcSpeeds fences speeds a) → arrived ≡ tickAndInterval? fences (arrivalOn fences lengths holds speeds a tick)
 
 -- An earlier arrival lowers the head's label.
 abbrev pub lowered : List ℕ → ℕ → ℕ → List ℕ
@@ -55,10 +56,11 @@ pub record Rekeyed (labels before : List ℕ) (head t : ℕ) (after : List ℕ) 
   pub kept : getD labels head 0 ≤ t → after ≡ before
 
 -- The tables have the arc.
-pub record HasArc (a : ℕ) (fences lengths speeds : List ℕ) : Type 0 where
+pub record HasArc (a : ℕ) (fences lengths holds speeds : List ℕ) : Type 0 where
   pub few-arcs : a < maxArcs
   pub few-intervals : length fences ≤ maxIntervals
   pub has-length : a < length lengths
+  pub has-hold : a < length holds
   pub has-speeds : a * length fences + length fences ≤ length speeds
 
 -- They have the head.
@@ -76,19 +78,20 @@ pub record Leaves (a head t interval : ℕ) (before after : Tables) : Type 0 whe
   pub rekeyed : Rekeyed (before .labels) (before .tree) head t (after .tree)
 
 -- What driving an arc leaves: where it does not arrive by the last tick, all is as it was.
-pub data ArcOffered (fences lengths speeds : List ℕ) (a head tick interval : ℕ) : Tables → Tables → Type 0 where
-  missed : {t : Tables} → ArrivesOn fences lengths speeds a tick interval none → ArcOffered fences lengths speeds a head tick interval t t
-  offered : {arrival arrives-in : ℕ} {t u : Tables} → ArrivesOn fences lengths speeds a tick interval (some (arrival, arrives-in)) →
+pub data ArcOffered (fences lengths holds speeds : List ℕ) (a head tick interval : ℕ) : Tables → Tables → Type 0 where
+  missed : {t : Tables} → ArrivesOn fences lengths holds speeds a tick interval none → ArcOffered fences lengths holds speeds a head tick interval t t
+  offered : {arrival arrives-in : ℕ} {t u : Tables} → ArrivesOn fences lengths holds speeds a tick interval (some (arrival, arrives-in)) →
       Leaves a head arrival arrives-in t u →
-      ArcOffered fences lengths speeds a head tick interval t u
+      ArcOffered fences lengths holds speeds a head tick interval t u
 
 -- ---- The offers of a junction's arcs
 
 -- What they are handed: an arc or none, and links that lead from each arc to a later one or to none.
-pub record Drivable (first : ℕ) (fences heads lengths speeds next : List ℕ) (before : Tables) : Type 0 where
+pub record Drivable (first : ℕ) (fences heads lengths holds speeds next : List ℕ) (before : Tables) : Type 0 where
   pub few-arcs : length heads ≤ maxArcs
   pub few-intervals : length fences ≤ maxIntervals
   pub lengths-long : length lengths ≡ length heads
+  pub holds-long : length holds ≡ length heads
   pub speeds-long : length speeds ≡ length heads * length fences
   pub few-junctions : length (before .labels) ≤ maxJunctions
   pub predecessors-long : length (before .predecessors) ≡ length (before .labels)
@@ -98,12 +101,12 @@ pub record Drivable (first : ℕ) (fences heads lengths speeds next : List ℕ) 
   pub tournament : Tournament (before .tree)
 
 -- From arc a on along the links, each arc to a head that is not settled has been driven, one after the other.
-pub data AllOffered (fences heads lengths speeds next : List ℕ) (settled : List Bool) (tick interval : ℕ) : ℕ → Tables → Tables → Type 0 where
-  none-left : {t : Tables} → AllOffered fences heads lengths speeds next settled tick interval noArc t t
+pub data AllOffered (fences heads lengths holds speeds next : List ℕ) (settled : List Bool) (tick interval : ℕ) : ℕ → Tables → Tables → Type 0 where
+  none-left : {t : Tables} → AllOffered fences heads lengths holds speeds next settled tick interval noArc t t
   skips : {a : ℕ} {t u : Tables} → (a ≡ noArc → ⊥) → getD settled (getD heads a 0) false ≡ true →
-      AllOffered fences heads lengths speeds next settled tick interval (getD next a 0) t u →
-      AllOffered fences heads lengths speeds next settled tick interval a t u
+      AllOffered fences heads lengths holds speeds next settled tick interval (getD next a 0) t u →
+      AllOffered fences heads lengths holds speeds next settled tick interval a t u
   offers : {a : ℕ} {t v u : Tables} → (a ≡ noArc → ⊥) → getD settled (getD heads a 0) false ≡ false →
-      ArcOffered fences lengths speeds a (getD heads a 0) tick interval t v →
-      AllOffered fences heads lengths speeds next settled tick interval (getD next a 0) v u →
-      AllOffered fences heads lengths speeds next settled tick interval a t u
+      ArcOffered fences lengths holds speeds a (getD heads a 0) tick interval t v →
+      AllOffered fences heads lengths holds speeds next settled tick interval (getD next a 0) v u →
+      AllOffered fences heads lengths holds speeds next settled tick interval a t u

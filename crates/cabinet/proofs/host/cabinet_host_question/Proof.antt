@@ -52,7 +52,7 @@ returns c =
     c .code .ensures ∙ load-refuses _ _ _ _ (sym (ap readingOf (told .refusal .given .1)) ∙ called (told .before .before) .load .ensures .0)
 
 label-in-tables-requires : tie.Need-label-in-tables-requires
-label-in-tables-requires c κs = stands (c .before .before .before .before .before) .long
+label-in-tables-requires c κs = let s = stands (c .before .before .before .before .before) in (s .few-arcs, s .long)
 
 returns-2 : tie.Need-returns-2
 returns-2 c =

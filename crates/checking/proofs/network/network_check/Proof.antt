@@ -1,5 +1,5 @@
 -- `network::network_check` meets its definition: each test that the code runs is the rule's own, so what is known at a place says of each
--- rule before it that it is kept (`kept₁` to `kept₈`).
+-- rule before it that it is kept (`kept₁` to `kept₉`).
 use borrow.Author.Needs.{needs}
 use mathlib.Core.Path.{_≡_, refl}
 use denote.Ref.{now}
@@ -20,8 +20,8 @@ by-rules n = refl
 
 abbrev N : tie.After-junction-count-keeps → Network
 N c =
-    let s = c .before .before .before .before .before .before in
-    network (s .args .junctions) (now (s .args .fences)) (now (s .args .tails)) (now (s .args .heads)) (now (s .args .lengths)) (now (s .args .speeds))
+    let s = c .before .before .before .before .before .before .before in
+    network (s .args .junctions) (now (s .args .fences)) (now (s .args .tails)) (now (s .args .heads)) (now (s .args .lengths)) (now (s .args .holds)) (now (s .args .speeds))
 
 abbrev kept₀ : tie.After-junction-count-keeps → KeptSoFar 0
 kept₀ c = none-asked tt _ (by-rules (N c))
@@ -50,13 +50,16 @@ kept₇ c = next-kept (kept₆ (c .before .before)) (as-test (c .before .lengths
 abbrev kept₈ : tie.Else8 → KeptSoFar 8
 kept₈ c = next-kept (kept₇ (c .before .before)) (as-test (c .before .speeds-keep .ensures) (c .if8 .left))
 
+abbrev kept₉ : tie.Else9 → KeptSoFar 9
+kept₉ c = next-kept (kept₈ (c .before .before)) (as-test (c .before .holds-keep .ensures) (c .if9 .left))
+
 tables-agree-requires : tie.Need-tables-agree-requires
 tables-agree-requires c κs = (kept-count (N (c .before .before .before .before) .fences) (kept₂ (c .before) .kept .1 .0) .1, c .if3 .left)
 
 ends-keep-requires : tie.Need-ends-keep-requires
 ends-keep-requires c κs =
     let n = N (c .before .before .before .before .before .before .before .before) in
-    kept-tables (n .fences) (n .tails) (n .heads) (n .lengths) (n .speeds) (kept₄ (c .before .before) .kept .1 .1 .1 .0) .0
+    kept-tables (n .fences) (n .tails) (n .heads) (n .lengths) (n .holds) (n .speeds) (kept₄ (c .before .before) .kept .1 .1 .1 .0) .0
 
 pub network-check-spec : {M : Type 1} → statement M
 network-check-spec =
@@ -77,4 +80,6 @@ network-check-spec =
     (λ c. next-refused (kept₆ (c .before .before)) (as-test (c .before .lengths-keep .ensures) (c .if7 .taken)))
     (λ c κs. search needs)
     (λ c. next-refused (kept₇ (c .before .before)) (as-test (c .before .speeds-keep .ensures) (c .if8 .taken)))
-    (λ c. all-kept (kept₈ c) refl))
+    (λ c κs. search needs)
+    (λ c. next-refused (kept₈ (c .before .before)) (as-test (c .before .holds-keep .ensures) (c .if9 .taken)))
+    (λ c. all-kept (kept₉ c) refl))

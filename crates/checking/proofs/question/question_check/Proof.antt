@@ -17,12 +17,12 @@ use Rattle.checking.proofs.question.question_check.Statement.{statement
 use Rattle.checking.proofs.question.question_check.Tie as tie
 
 abbrev start : tie.After-enum-told → tie.Start
-start c = c .before .before .before .before .before .before .before .before
+start c = c .before .before .before .before .before .before .before .before .before
 
 abbrev N : tie.After-enum-told → Network
 N c =
     let s = start c in
-    network (s .args .junctions) (now (s .args .fences)) (now (s .args .tails)) (now (s .args .heads)) (now (s .args .lengths)) (now (s .args .speeds))
+    network (s .args .junctions) (now (s .args .fences)) (now (s .args .tails)) (now (s .args .heads)) (now (s .args .lengths)) (now (s .args .holds)) (now (s .args .speeds))
 
 -- the network is accepted
 accepted : (c : tie.After-enum-told) → AllKept (networkRules (N c))
@@ -33,17 +33,17 @@ by-rules : (n : Network) (source departure : ℕ) → questionCheck n source dep
 unfolding questionCheck
 by-rules n source departure = refl
 
-abbrev kept₈ : tie.After-enum-told → KeptSoFar 8
-kept₈ c =
+abbrev kept₉ : tie.After-enum-told → KeptSoFar 9
+kept₉ c =
     let source = start c .args .source in
     let departure = start c .args .tick in
     others-kept tt (networkRules (N c)) (startRules (N c) source departure) (by-rules (N c) source departure) (accepted c)
 
-abbrev kept₉ : tie.Else1 → KeptSoFar 9
-kept₉ c = next-kept (kept₈ (c .before)) (ap not (lt-ltb _ _ (c .if1 .left)))
+abbrev kept₁₀ : tie.Else1 → KeptSoFar 10
+kept₁₀ c = next-kept (kept₉ (c .before)) (ap not (lt-ltb _ _ (c .if1 .left)))
 
-abbrev kept₁₀ : tie.Else2 → KeptSoFar 10
-kept₁₀ c = next-kept (kept₉ (c .before)) (ap not (lt-ltb _ _ (c .if2 .left)))
+abbrev kept₁₁ : tie.Else2 → KeptSoFar 11
+kept₁₁ c = next-kept (kept₁₀ (c .before)) (ap not (lt-ltb _ _ (c .if2 .left)))
 
 returns : tie.Need-returns
 returns c = network-refuses _ _ _ _ (sym (ap outcomeOf (c .before .refusal .given .1)) ∙ c .before .before .before .network-check .ensures)
@@ -56,6 +56,6 @@ question-check-spec =
     (λ c. search needs)
     returns
     (λ c. search needs)
-    (λ c. next-refused (kept₈ (c .before)) (ap not (le-ltb _ _ (c .if1 .taken))))
-    (λ c. next-refused (kept₉ (c .before)) (ap not (le-ltb _ _ (c .if2 .taken))))
-    (λ c. all-kept (kept₁₀ c) refl))
+    (λ c. next-refused (kept₉ (c .before)) (ap not (le-ltb _ _ (c .if1 .taken))))
+    (λ c. next-refused (kept₁₀ (c .before)) (ap not (le-ltb _ _ (c .if2 .taken))))
+    (λ c. all-kept (kept₁₁ c) refl))

@@ -27,28 +27,32 @@ returns-4 c = refuses (λ fit. omega (arith, fit .heads-long))
 returns-5 : tie.Need-returns-5
 returns-5 c = refuses (λ fit. omega (arith, fit .lengths-long))
 
-mul-if6 : tie.Need-mul-if6
-mul-if6 c = short-product _ _ (omega arith) (omega arith)
-
 returns-6 : tie.Need-returns-6
-returns-6 c = refuses (λ fit. omega (arith, fit .speeds-long))
+returns-6 c = refuses (λ fit. omega (arith, fit .holds-long))
+
+mul-if7 : tie.Need-mul-if7
+mul-if7 c = short-product _ _ (omega arith) (omega arith)
 
 returns-7 : tie.Need-returns-7
-returns-7 c = refuses (λ fit. omega (arith, c .before .highest .ensures .least _ (fit .some-junction) (fit .tail-below)))
+returns-7 c = refuses (λ fit. omega (arith, fit .speeds-long))
 
 returns-8 : tie.Need-returns-8
-returns-8 c =
-    let tails = c .before .before .highest .ensures in
-    heads-decide (c .highest2 .ensures) (λ below. record {
-      some-junction = omega (arith, c .before .if7 .left);
+returns-8 c = refuses (λ fit. omega (arith, c .before .highest-u16 .ensures .least _ (fit .some-junction) (fit .tail-below)))
+
+returns-9 : tie.Need-returns-9
+returns-9 c =
+    let tails = c .before .before .highest-u16 .ensures in
+    heads-decide (c .highest-u162 .ensures) (λ below. record {
+      some-junction = omega (arith, c .before .if8 .left);
       junctions-fit = omega arith;
       intervals-fit = omega arith;
       arcs-fit = omega arith;
       heads-long = omega arith;
       lengths-long = omega arith;
+      holds-long = omega arith;
       speeds-long = omega arith;
-      tail-below = λ a h. omega (arith, tails .no-higher a h, c .before .if7 .left);
-      head-below = λ a h. omega (arith, c .highest2 .ensures .no-higher a (omega arith));
+      tail-below = λ a h. omega (arith, tails .no-higher a h, c .before .if8 .left);
+      head-below = λ a h. omega (arith, c .highest-u162 .ensures .no-higher a (omega arith));
     })
 
 pub tables-fit-spec : {M : Type 1} → statement M
@@ -60,11 +64,12 @@ tables-fit-spec =
     returns-3
     returns-4
     returns-5
-    mul-if6
     returns-6
-    (λ c κs. search needs)
-    (λ c. search needs)
+    mul-if7
     returns-7
     (λ c κs. search needs)
     (λ c. search needs)
-    returns-8)
+    returns-8
+    (λ c κs. search needs)
+    (λ c. search needs)
+    returns-9)

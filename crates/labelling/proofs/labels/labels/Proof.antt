@@ -18,10 +18,10 @@ use Rattle.labelling.proofs.labels.labels.Statement.{statement}
 use Rattle.labelling.proofs.labels.labels.Tie as tie
 
 abbrev N : tie.Start → Network
-N s = network (s .args .junctions) (now (s .args .fences)) (now (s .args .tails)) (now (s .args .heads)) (now (s .args .lengths)) (now (s .args .speeds))
+N s = network (s .args .junctions) (now (s .args .fences)) (now (s .args .tails)) (now (s .args .heads)) (now (s .args .lengths)) (now (s .args .holds)) (now (s .args .speeds))
 
 abbrev start : tie.After-enum-told → tie.Start
-start c = c .before .before .before .before .before .before .before .before .before .before
+start c = c .before .before .before .before .before .before .before .before .before .before .before
 
 -- the question is taken
 taken : (c : tie.After-enum-told) → AllKept (questionRules (N (start c)) (start c .args .source) (start c .args .departure .number))

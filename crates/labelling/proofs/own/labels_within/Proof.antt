@@ -18,14 +18,14 @@ returns : tie.Need-returns
 returns c =
     let l = c .before .before .before .before in
     let count = l .before .before .before in
-    let s = count .before .before .before .before .before .before .before .before .before in
+    let s = count .before .before .before .before .before .before .before .before .before .before in
     let n = s .args .junctions in
     let labels-count = count .before .lesser .ensures in
     let predecessors-count = count .lesser2 .ensures in
     let labels-front = front-is (now (s .args .labels)) n _ labels-count in
     let predecessors-front = front-is (now (s .args .predecessors)) n _ predecessors-count in
-    let labels-back = front-back (now (s .args .labels)) n _ labels-count _ (l .labels .kept .1 .1 .1 .1 .1 .1 .1 .1 .0) in
-    let predecessors-back = front-back (now (s .args .predecessors)) n _ predecessors-count _ (l .labels .kept .1 .1 .1 .1 .1 .1 .1 .1 .1 .0) in (
+    let labels-back = front-back (now (s .args .labels)) n _ labels-count _ (l .labels .kept .1 .1 .1 .1 .1 .1 .1 .1 .1 .0) in
+    let predecessors-back = front-back (now (s .args .predecessors)) n _ predecessors-count _ (l .labels .kept .1 .1 .1 .1 .1 .1 .1 .1 .1 .1 .0) in (
       rw (labels-front, predecessors-front) at (l .labels .ensures .0),
       (labels-back ∙ rw (labels-front, predecessors-front) at (l .labels .ensures .1 .0), predecessors-back ∙ rw (labels-front, predecessors-front) at (l .labels .ensures .1 .1)),
     )

@@ -17,10 +17,10 @@ use Rattle.printing.proofs.arrivals.network_arrivals.Statement.{stateme
 use Rattle.printing.proofs.arrivals.network_arrivals.Tie as tie
 
 abbrev N : tie.Start → Network
-N s = network (s .args .junctions) (now (s .args .fences)) (now (s .args .tails)) (now (s .args .heads)) (now (s .args .lengths)) (now (s .args .speeds))
+N s = network (s .args .junctions) (now (s .args .fences)) (now (s .args .tails)) (now (s .args .heads)) (now (s .args .lengths)) (now (s .args .holds)) (now (s .args .speeds))
 
 abbrev begun : tie.After-labels-within → tie.Start
-begun c = c .before .before .before .before .before .before .before .before
+begun c = c .before .before .before .before .before .before .before .before .before
 
 few : (s : tie.Start) → s .args .junctions ≤ 200
 few s = few-junctions (N s) (s .args .source) (s .args .departure) (s .pre)
@@ -34,10 +34,10 @@ part-long s = length-take-le (s .args .junctions) (replicate 200 0) (few s)
 
 -- what the call left in the first entries of both buffers
 abbrev labels : tie.After-labels-within → List ℕ
-labels c = take (begun c .args .junctions) (c .labels-within .last .1 .1 .1 .1 .1 .1 .1 .1 .0)
+labels c = take (begun c .args .junctions) (c .labels-within .last .1 .1 .1 .1 .1 .1 .1 .1 .1 .0)
 
 abbrev predecessors : tie.After-labels-within → List ℕ
-predecessors c = take (begun c .args .junctions) (c .labels-within .last .1 .1 .1 .1 .1 .1 .1 .1 .1 .0)
+predecessors c = take (begun c .args .junctions) (c .labels-within .last .1 .1 .1 .1 .1 .1 .1 .1 .1 .1 .0)
 
 -- Where Labels has written
 module _ (c : tie.After-labels-within) (told : c .labels-within .result ≡ Written) where
@@ -57,7 +57,7 @@ put-parts-requires : tie.Need-put-parts-requires
 put-parts-requires c κs =
     let called = c .before .before .before .before .before .before .before in
     let told = c .before .before .before .enum-told .given .1 in
-    let kept = called .labels-within .kept .1 .1 .1 .1 .1 .1 .1 .1 in
+    let kept = called .labels-within .kept .1 .1 .1 .1 .1 .1 .1 .1 .1 in
     let fits = table-fits (N (begun called)) _ _ (begun called .pre) in (
       omega (arith, few (begun called), kept .0),
       (omega (arith, few (begun called), kept .1 .0), table-fits-too (labels-are called told) (predecessors-are called told) fits),

@@ -30,7 +30,7 @@ loaded-arrivals-requires : tie.Need-loaded-arrivals-requires
 loaded-arrivals-requires c κs =
     let counted = c .before .before .before .before .before .before .before in
     let town = loaded (counted .before .before .before .before .before .before .before) (counted .junctions .given .1) in
-    (town .long, town .checked)
+    (town .few-arcs, (town .long, town .checked))
 
 returns : tie.Need-returns
 returns c =

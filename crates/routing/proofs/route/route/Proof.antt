@@ -15,17 +15,17 @@ use Rattle.routing.proofs.route.route.Statement.{statement}
 use Rattle.routing.proofs.route.route.Tie as tie
 
 abbrev start : tie.After-labels-within → tie.Start
-start c = c .before .before .before .before .before .before .before .before .before
+start c = c .before .before .before .before .before .before .before .before .before .before
 
 abbrev N : tie.Start → Network
-N s = network (s .args .junctions) (now (s .args .fences)) (now (s .args .tails)) (now (s .args .heads)) (now (s .args .lengths)) (now (s .args .speeds))
+N s = network (s .args .junctions) (now (s .args .fences)) (now (s .args .tails)) (now (s .args .heads)) (now (s .args .lengths)) (now (s .args .holds)) (now (s .args .speeds))
 
 -- the tables as Labels leaves them
 abbrev labels : tie.After-labels-within → List ℕ
-labels c = c .labels-within .last .1 .1 .1 .1 .1 .1 .1 .1 .0
+labels c = c .labels-within .last .1 .1 .1 .1 .1 .1 .1 .1 .1 .0
 
 abbrev predecessors : tie.After-labels-within → List ℕ
-predecessors c = c .labels-within .last .1 .1 .1 .1 .1 .1 .1 .1 .1 .0
+predecessors c = c .labels-within .last .1 .1 .1 .1 .1 .1 .1 .1 .1 .1 .0
 
 called : (c : tie.After-labels-within) →
     LabelsCalled (N (start c)) (start c .args .source) (start c .args .departure .number) (outcomeOf (c .labels-within .result))
@@ -43,12 +43,12 @@ written c = ap outcomeOf (c .enum-told .given .1)
 labels-fit : (c : tie.After-enum-told) → start (labelled c) .args .junctions ≤ length (labels (labelled c))
 labels-fit c =
     let few-junctions = taken (called (labelled c)) (written c) .accepted .junctions-fit in
-    omega (arith, few-junctions, labelled c .labels-within .kept .1 .1 .1 .1 .1 .1 .1 .1 .0)
+    omega (arith, few-junctions, labelled c .labels-within .kept .1 .1 .1 .1 .1 .1 .1 .1 .1 .0)
 
 predecessors-fit : (c : tie.After-enum-told) → start (labelled c) .args .junctions ≤ length (predecessors (labelled c))
 predecessors-fit c =
     let few-junctions = taken (called (labelled c)) (written c) .accepted .junctions-fit in
-    omega (arith, few-junctions, labelled c .labels-within .kept .1 .1 .1 .1 .1 .1 .1 .1 .1 .0)
+    omega (arith, few-junctions, labelled c .labels-within .kept .1 .1 .1 .1 .1 .1 .1 .1 .1 .1 .0)
 
 follow-requires : tie.Need-follow-requires
 follow-requires c κs =

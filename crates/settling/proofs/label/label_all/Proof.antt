@@ -22,15 +22,15 @@ use Rattle.settling.proofs.label.label_all.Statement.{statement}
 use Rattle.settling.proofs.label.label_all.Tie as tie
 
 abbrev Inv-loop : tie.InvT-loop
-Inv-loop junctions fences tails heads lengths speeds source departure labels₀ predecessors₀ first next settled₀ tree₀ intervals₀ labels predecessors settled tree intervals =
-    Between (network junctions fences tails heads lengths speeds) source departure first next settled (tables labels predecessors intervals tree)
+Inv-loop junctions fences tails heads lengths holds speeds source departure labels₀ predecessors₀ first next settled₀ tree₀ intervals₀ labels predecessors settled tree intervals =
+    Between (network junctions fences tails heads lengths holds speeds) source departure first next settled (tables labels predecessors intervals tree)
 
 abbrev μ-loop : tie.MeasureT-loop
-μ-loop junctions fences tails heads lengths speeds source departure labels₀ predecessors₀ first next settled₀ tree₀ intervals₀ labels predecessors settled tree intervals = waiting settled
+μ-loop junctions fences tails heads lengths holds speeds source departure labels₀ predecessors₀ first next settled₀ tree₀ intervals₀ labels predecessors settled tree intervals = waiting settled
 
 -- the start, from the places that follow it
 abbrev start : tie.After-clear Inv-loop μ-loop → tie.Start Inv-loop μ-loop
-start c = c .before .before .before .before .before .before .before .before .before .before
+start c = c .before .before .before .before .before .before .before .before .before .before .before
 
 abbrev cleared : tie.After-link-arcs Inv-loop μ-loop → tie.After-clear Inv-loop μ-loop
 cleared c = c .before .before .before .before .before .before .before
@@ -67,7 +67,7 @@ settling c = c .before .before .before .before
 
 clear-requires : tie.Need-clear-requires Inv-loop μ-loop
 clear-requires c κs =
-    let q = c .before .before .before .before .before .before .before .before .before .pre in
+    let q = c .before .before .before .before .before .before .before .before .before .before .pre in
     q .predecessors-long ∙ sym (q .labels-long)
 
 mul-labels : tie.Need-mul-labels Inv-loop μ-loop
@@ -139,7 +139,7 @@ same-length-2 : tie.Need-same-length-2 Inv-loop μ-loop
 same-length-2 c = c .before .before .before .loop .inv .standing .predecessors-long ∙ sym (start-of (c .before .before .before) .pre .predecessors-long)
 
 abbrev N : tie.Start Inv-loop μ-loop → Network
-N s = network (s .args .junctions) (now (s .args .fences)) (now (s .args .tails)) (now (s .args .heads)) (now (s .args .lengths)) (now (s .args .speeds))
+N s = network (s .args .junctions) (now (s .args .fences)) (now (s .args .tails)) (now (s .args .heads)) (now (s .args .lengths)) (now (s .args .holds)) (now (s .args .speeds))
 
 -- no junction is left
 ended : (c : tie.Then1 Inv-loop μ-loop) →

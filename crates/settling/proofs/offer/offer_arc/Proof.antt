@@ -3,25 +3,29 @@ use borrow.Author.Needs.{needs}
 use mathlib.Core.Path.{sym, ap, _∙_}
 use native.Mathlib.Nat.{add-sub-cancel-left}
 use native.Mathlib.Omega.{arith}
+use mir.Facts.{fits-widen}
 use denote.Ref.{now}
 use Rattle.model.specs.Ticks.{arrivedAt}
 use Rattle.settling.specs.code.Offering.{ArrivesOn, missed, offered}
 use Rattle.settling.proofs.offer.offer_arc.Statement.{statement}
 use Rattle.settling.proofs.offer.offer_arc.Tie as tie
 
-abbrev start : tie.After-drive → tie.Start
-start c = c .before .before .before .before .before .before .before .before
+abbrev start : tie.After-drive-with-hold → tie.Start
+start c = c .before .before .before .before .before .before .before .before .before .before
 
-driven : (c : tie.After-drive) → ArrivesOn (now (start c .args .fences)) (now (start c .args .lengths)) (now (start c .args .speeds)) (start c .args .a)
-    (start c .args .tick) (start c .args .interval) (arrivedAt (c .drive .result))
-driven c = rw add-sub-cancel-left at (c .drive .ensures .0)
+driven : (c : tie.After-drive-with-hold) → ArrivesOn (now (start c .args .fences)) (now (start c .args .lengths)) (now (start c .args .holds)) (now (start c .args .speeds)) (start c .args .a)
+    (start c .args .tick) (start c .args .interval) (arrivedAt (c .drive-with-hold .result))
+driven c = rw add-sub-cancel-left at (c .drive-with-hold .ensures .0)
+
+cast-hold : tie.Need-cast-hold
+cast-hold c = fits-widen tt (c .shared-slice-known6 .given _)
 
 -- The arrival's interval is one of the plan's, which has few.
 cast-noted : tie.Need-cast-noted
 cast-noted c =
     let told = c .before in
     let d = told .before .before in
-    omega (arith, rw (told .arrival .given .1) at (d .drive .ensures .1), start d .pre .0 .few-intervals)
+    omega (arith, rw (told .arrival .given .1) at (d .drive-with-hold .ensures .1), start d .pre .0 .few-intervals)
 
 returns : tie.Need-returns
 returns c =
@@ -41,6 +45,9 @@ offer-arc-spec =
     (λ c. search needs)
     (λ c. search needs)
     (λ c. search needs)
+    (λ c. search needs)
+    (λ c. search needs)
+    cast-hold
     (λ c. search needs)
     (λ c. search needs)
     (λ c. search needs)

@@ -13,14 +13,14 @@ use Rattle.settling.proofs.offer.offer_arcs.Statement.{statement}
 use Rattle.settling.proofs.offer.offer_arcs.Tie as tie
 
 abbrev Inv-loop : tie.InvT-loop
-Inv-loop first tick interval fences heads lengths speeds next settled labels₀ predecessors₀ intervals₀ tree₀ a₀ labels predecessors intervals tree a =
-    Onward first fences heads lengths speeds next (tables labels₀ predecessors₀ intervals₀ tree₀) settled tick interval a (tables labels predecessors intervals tree)
+Inv-loop first tick interval fences heads lengths holds speeds next settled labels₀ predecessors₀ intervals₀ tree₀ a₀ labels predecessors intervals tree a =
+    Onward first fences heads lengths holds speeds next (tables labels₀ predecessors₀ intervals₀ tree₀) settled tick interval a (tables labels predecessors intervals tree)
 
 abbrev μ-loop : tie.MeasureT-loop
-μ-loop first tick interval fences heads lengths speeds next settled labels₀ predecessors₀ intervals₀ tree₀ a₀ labels predecessors intervals tree a = noArc - a
+μ-loop first tick interval fences heads lengths holds speeds next settled labels₀ predecessors₀ intervals₀ tree₀ a₀ labels predecessors intervals tree a = noArc - a
 
 abbrev start : tie.After-slice-known2 Inv-loop μ-loop → tie.Start Inv-loop μ-loop
-start c = c .before .before .before .before .before .before
+start c = c .before .before .before .before .before .before .before
 
 abbrev handed : tie.In-loop Inv-loop μ-loop → tie.Start Inv-loop μ-loop
 handed c = start (c .before .before)
@@ -49,7 +49,7 @@ shared-slice-read-head : tie.Need-shared-slice-read-head Inv-loop μ-loop
 shared-slice-read-head c = arc-at (c .before)
 
 cast-head : tie.Need-cast-head Inv-loop μ-loop
-cast-head c = fits-widen tt (c .shared-slice-known5 .given _)
+cast-head c = fits-widen tt (c .shared-slice-known6 .given _)
 
 element-copy-out-if1 : tie.Need-element-copy-out-if1 Inv-loop μ-loop
 element-copy-out-if1 c = offerable (c .before) .is-junction

@@ -7,7 +7,7 @@ use Rattle.settling.proofs.settle.settle.Statement.{statement}
 use Rattle.settling.proofs.settle.settle.Tie as tie
 
 abbrev start : tie.After-enter → tie.Start
-start c = c .before .before .before .before .before .before .before .before
+start c = c .before .before .before .before .before .before .before .before .before
 
 abbrev entered-at : tie.After-offer-arcs-arg7 → tie.After-enter
 entered-at c = c .before .before .before .before .before .before .before .before

@@ -14,17 +14,17 @@ use Rattle.sheeting.proofs.rows.write_rows.Statement.{statement}
 use Rattle.sheeting.proofs.rows.write_rows.Tie as tie
 
 abbrev Inv-loop : tie.InvT-loop
-Inv-loop junctions fences tails heads lengths speeds source departures labels₀ predecessors₀ k₀ labels predecessors k =
-    RowsWritten (network junctions fences tails heads lengths speeds) source departures labels₀ k labels × (length predecessors ≡ 200)
+Inv-loop junctions fences tails heads lengths holds speeds source departures labels₀ predecessors₀ k₀ labels predecessors k =
+    RowsWritten (network junctions fences tails heads lengths holds speeds) source departures labels₀ k labels × (length predecessors ≡ 200)
 
 abbrev μ-loop : tie.MeasureT-loop
-μ-loop junctions fences tails heads lengths speeds source departures labels₀ predecessors₀ k₀ labels predecessors k = length departures - k
+μ-loop junctions fences tails heads lengths holds speeds source departures labels₀ predecessors₀ k₀ labels predecessors k = length departures - k
 
 abbrev start : tie.In-loop Inv-loop μ-loop → tie.Start Inv-loop μ-loop
-start c = c .before .before .before .before .before .before .before .before .before
+start c = c .before .before .before .before .before .before .before .before .before .before
 
 abbrev N : tie.In-loop Inv-loop μ-loop → Network
-N c = let args = start c .args in network (args .junctions) (now (args .fences)) (now (args .tails)) (now (args .heads)) (now (args .lengths)) (now (args .speeds))
+N c = let args = start c .args in network (args .junctions) (now (args .fences)) (now (args .tails)) (now (args .heads)) (now (args .lengths)) (now (args .holds)) (now (args .speeds))
 
 asked : (c : tie.In-loop Inv-loop μ-loop) → RowsAsked (N c) (start c .args .source) (now (start c .args .departures)) (now (start c .args .labels))
 asked c = start c .pre
@@ -41,9 +41,9 @@ loop-again c =
       labels-long = sym (part-long (asked turn .labels-long) w more);
       predecessors-long = length-take-le _ _ (omega (arith, t .accepted .junctions-fit, turn .before .loop .inv .1));
     }) in
-    let kept = called .label-from .kept .1 .1 .1 .1 .1 .1 .1 .1 .1 .0 in (
+    let kept = called .label-from .kept .1 .1 .1 .1 .1 .1 .1 .1 .1 .1 .0 in (
       rows-go-on (asked turn .labels-long) w more first,
-      length-front (turn .before .loop .predecessors) (called .label-from .last .1 .1 .1 .1 .1 .1 .1 .1 .1 .0) (start turn .args .junctions) kept ∙ turn .before .loop .inv .1,
+      length-front (turn .before .loop .predecessors) (called .label-from .last .1 .1 .1 .1 .1 .1 .1 .1 .1 .1 .0) (start turn .args .junctions) kept ∙ turn .before .loop .inv .1,
     )
 
 pub write-rows-spec : {M : Type 1} → statement M
@@ -68,4 +68,4 @@ write-rows-spec =
     (λ c. search needs)
     loop-again
     (λ c. c .before .loop .inv .0 .same-length)
-    (λ c. rows-end (c .before .before .before .before .before .before .before .before .before .pre .labels-long) (c .before .loop .inv .0) (c .loop-test .left)))
+    (λ c. rows-end (c .before .before .before .before .before .before .before .before .before .before .pre .labels-long) (c .before .loop .inv .0) (c .loop-test .left)))

@@ -16,12 +16,12 @@ use Rattle.sheeting.proofs.sheet.sheet.Statement.{statement}
 use Rattle.sheeting.proofs.sheet.sheet.Tie as tie
 
 abbrev start : tie.After-enum-told → tie.Start
-start c = c .before .before .before .before .before .before .before .before .before .before .before
+start c = c .before .before .before .before .before .before .before .before .before .before .before .before
 
 abbrev N : tie.After-enum-told → Network
 N c =
     let args = start c .args in
-    network (args .junctions) (now (args .fences)) (now (args .tails)) (now (args .heads)) (now (args .lengths)) (now (args .speeds))
+    network (args .junctions) (now (args .fences)) (now (args .tails)) (now (args .heads)) (now (args .lengths)) (now (args .holds)) (now (args .speeds))
 
 -- the source and the list are taken
 checked : (c : tie.After-enum-told) → shiftCheck (N c) (start c .args .source) (now (start c .args .departures)) ≡ replied tt

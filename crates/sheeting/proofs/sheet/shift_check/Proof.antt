@@ -19,12 +19,12 @@ use Rattle.sheeting.proofs.sheet.shift_check.Statement.{statement}
 use Rattle.sheeting.proofs.sheet.shift_check.Tie as tie
 
 abbrev start : tie.After-enum-told → tie.Start
-start c = c .before .before .before .before .before .before .before .before .before
+start c = c .before .before .before .before .before .before .before .before .before .before
 
 abbrev N : tie.After-enum-told → Network
 N c =
     let s = start c in
-    network (s .args .junctions) (now (s .args .fences)) (now (s .args .tails)) (now (s .args .heads)) (now (s .args .lengths)) (now (s .args .speeds))
+    network (s .args .junctions) (now (s .args .fences)) (now (s .args .tails)) (now (s .args .heads)) (now (s .args .lengths)) (now (s .args .holds)) (now (s .args .speeds))
 
 -- the network is accepted
 accepted : (c : tie.After-enum-told) → AllKept (networkRules (N c))
@@ -35,17 +35,17 @@ by-rules : (n : Network) (source : ℕ) (departures : List ℕ) → shiftCheck n
 unfolding shiftCheck
 by-rules n source departures = refl
 
-abbrev kept₈ : tie.After-enum-told → KeptSoFar 8
-kept₈ c =
+abbrev kept₉ : tie.After-enum-told → KeptSoFar 9
+kept₉ c =
     let source = start c .args .source in
     let departures = now (start c .args .departures) in
     others-kept tt (networkRules (N c)) (shiftRules (N c) source departures) (by-rules (N c) source departures) (accepted c)
 
-abbrev kept₉ : tie.Else1 → KeptSoFar 9
-kept₉ c = next-kept (kept₈ (c .before)) (ap not (lt-ltb _ _ (c .if1 .left)))
+abbrev kept₁₀ : tie.Else1 → KeptSoFar 10
+kept₁₀ c = next-kept (kept₉ (c .before)) (ap not (lt-ltb _ _ (c .if1 .left)))
 
-abbrev kept₁₀ : tie.Else3 → KeptSoFar 10
-kept₁₀ c = next-kept (kept₉ (c .before .before)) (count-kept (c .before .if2 .left) (c .if3 .left))
+abbrev kept₁₁ : tie.Else3 → KeptSoFar 11
+kept₁₁ c = next-kept (kept₁₀ (c .before .before)) (count-kept (c .before .if2 .left) (c .if3 .left))
 
 returns : tie.Need-returns
 returns c = network-refuses _ _ _ (sym (ap outcomeOf (c .before .refusal .given .1)) ∙ c .before .before .before .network-check .ensures)
@@ -58,9 +58,9 @@ shift-check-spec =
     (λ c. search needs)
     returns
     (λ c. search needs)
-    (λ c. next-refused (kept₈ (c .before)) (ap not (le-ltb _ _ (c .if1 .taken))))
-    (λ c. next-refused (kept₉ (c .before)) (none-listed (c .if2 .taken)))
-    (λ c. next-refused (kept₉ (c .before .before)) (too-many-listed (c .if3 .taken)))
+    (λ c. next-refused (kept₉ (c .before)) (ap not (le-ltb _ _ (c .if1 .taken))))
+    (λ c. next-refused (kept₁₀ (c .before)) (none-listed (c .if2 .taken)))
+    (λ c. next-refused (kept₁₀ (c .before .before)) (too-many-listed (c .if3 .taken)))
     (λ c κs. search needs)
-    (λ c. next-refused (kept₁₀ (c .before .before)) (ap not (test-fails (c .before .departures-keep .ensures) (c .if4 .taken))))
-    (λ c. all-kept (next-kept (kept₁₀ (c .before .before)) (ap not (test-passes (c .before .departures-keep .ensures) (c .if4 .left)))) refl))
+    (λ c. next-refused (kept₁₁ (c .before .before)) (ap not (test-fails (c .before .departures-keep .ensures) (c .if4 .taken))))
+    (λ c. all-kept (next-kept (kept₁₁ (c .before .before)) (ap not (test-passes (c .before .departures-keep .ensures) (c .if4 .left)))) refl))

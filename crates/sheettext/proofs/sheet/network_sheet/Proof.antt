@@ -17,7 +17,7 @@ use Rattle.sheettext.proofs.sheet.network_sheet.Statement.{statement}
 use Rattle.sheettext.proofs.sheet.network_sheet.Tie as tie
 
 abbrev N : tie.Start → Network
-N s = network (s .args .junctions) (now (s .args .fences)) (now (s .args .tails)) (now (s .args .heads)) (now (s .args .lengths)) (now (s .args .speeds))
+N s = network (s .args .junctions) (now (s .args .fences)) (now (s .args .tails)) (now (s .args .heads)) (now (s .args .lengths)) (now (s .args .holds)) (now (s .args .speeds))
 
 abbrev departures : tie.Start → List ℕ
 departures s = now (s .args .departures)
@@ -39,19 +39,19 @@ figures-long : (s : tie.Start) → length (figures s) ≡ 4 * s .args .junctions
 figures-long s = length-take-le _ (replicate 800 0) (rw (length-replicate {A = ℕ} 800 0) (omega (arith, few s)))
 
 abbrev begun : tie.After-sheet-parts → tie.Start
-begun c = c .before .before .before .before .before .before .before .before .before
+begun c = c .before .before .before .before .before .before .before .before .before .before
 
 is-written : (c : tie.After-sheet-parts) → c .sheet-parts .result ≡ Written →
     let s = begun c in replied tt ≡ sheetAnswer (N s) (s .args .source) (departures s) (labels s) (figures s)
 is-written c told = ap outcomeOf (sym told) ∙ c .sheet-parts .ensures .0
 
 -- the table of figures still has its length
-long : (c : tie.After-sheet-parts) → 4 * begun c .args .junctions ≤ length (c .sheet-parts .last .1 .1 .1 .1 .1 .1 .1 .1 .1 .0)
-long c = omega (arith, few (begun c), c .sheet-parts .kept .1 .1 .1 .1 .1 .1 .1 .1 .1 .0)
+long : (c : tie.After-sheet-parts) → 4 * begun c .args .junctions ≤ length (c .sheet-parts .last .1 .1 .1 .1 .1 .1 .1 .1 .1 .1 .0)
+long c = omega (arith, few (begun c), c .sheet-parts .kept .1 .1 .1 .1 .1 .1 .1 .1 .1 .1 .0)
 
 sheet-parts-requires : tie.Need-sheet-parts-requires
 sheet-parts-requires c κs =
-    let s = c .before .before .before .before .before .before .before .before in
+    let s = c .before .before .before .before .before .before .before .before .before in
     record { few-junctions = few s; few-departures = s .pre .1; labels-long = omega (arith, length-replicate {A = ℕ} 19400 0); figures-long = omega (arith, length-replicate {A = ℕ} 800 0) }
 
 put-sheet-requires : tie.Need-put-sheet-requires

@@ -23,21 +23,21 @@ labels-inside s = omega (arith, few-labels s, s .pre .labels-long)
 returns : tie.Need-returns
 returns c =
     let called = c .before .before .before .before .sheet in
-    let start = c .before .before .before .before .before .before .before .before .before .before .before .before .before .before .before in
+    let start = c .before .before .before .before .before .before .before .before .before .before .before .before .before .before .before .before in
     let count = 4 * start .args .junctions in
     let part = length-take-le count (now (start .args .figures)) (few-figures start) in
-    (called .ensures .0, take-at _ _ count (called .kept .1 .1 .1 .1 .1 .1 .1 .1 .1 .0 ∙ part) ∙ called .ensures .1 .1)
+    (called .ensures .0, take-at _ _ count (called .kept .1 .1 .1 .1 .1 .1 .1 .1 .1 .1 .0 ∙ part) ∙ called .ensures .1 .1)
 
 pub sheet-parts-spec : {M : Type 1} → statement M
 sheet-parts-spec =
     tie.close
     (tie.spec
-    (λ c. omega (arith, few-labels (c .before .before .before .before .before .before .before .before)))
+    (λ c. omega (arith, few-labels (c .before .before .before .before .before .before .before .before .before)))
     (λ c. search needs)
-    (λ c. labels-inside (c .before .before .before .before .before .before .before .before))
-    (λ c. sym (length-take-le _ _ (labels-inside (c .before .before .before .before .before .before .before .before .before))))
+    (λ c. labels-inside (c .before .before .before .before .before .before .before .before .before))
+    (λ c. sym (length-take-le _ _ (labels-inside (c .before .before .before .before .before .before .before .before .before .before))))
     (λ c. search needs)
-    (λ c. sym (length-take-le _ _ (few-figures (c .before .before .before .before .before .before .before .before .before .before))))
+    (λ c. sym (length-take-le _ _ (few-figures (c .before .before .before .before .before .before .before .before .before .before .before))))
     (λ c κs. search needs)
     (λ c. search needs)
     (λ c. search needs)

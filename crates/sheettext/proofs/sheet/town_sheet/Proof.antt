@@ -31,7 +31,7 @@ loaded-sheet-requires c κs =
     let counted = c .before .before .before .before .before .before .before in
     let called = counted .before .before .before .before .before .before .before in
     let town = loaded called (counted .junctions .given .1) in
-    (town .long, (town .checked, begun called .pre))
+    (town .few-arcs, (town .long, (town .checked, begun called .pre)))
 
 returns : tie.Need-returns
 returns c =

@@ -232,15 +232,8 @@ fn walk_across_midnight() {
     let before = 863_900..864_000;
     let after = (864_000..).step_by(2);
     let expected: Vec<u32> = before.chain(after).take(200).collect();
-    let mut labels = [0; 200];
-    let mut predecessors = [0; 200];
-    let reply = cabinet::labels(&network.lent(), 0, 863_900, &mut labels, &mut predecessors);
-    assert_eq!(reply, Ok(()));
-    assert_eq!(labels[..], expected);
-    assert_answered([
-        answers::labels(&network, (0, 863_900), (200, 200)),
-        answers::route(&network, (0, 863_900), 199, 199),
-    ]);
+    assert_eq!(labels(&network, 863_900).0[..], expected);
+    assert_answered([answers::route(&network, (0, 863_900), 199, 199)]);
 }
 
 #[test]
@@ -262,19 +255,9 @@ fn equal_arrivals_after_midnight() {
         (100, [100, 101, 864_001], 0),
         (863_999, [863_999, 864_000, 864_001], 0),
     ] {
-        let mut labels = [0; 3];
-        let mut predecessors = [0; 3];
-        let reply = cabinet::labels(
-            &network.lent(),
-            0,
-            departure,
-            &mut labels,
-            &mut predecessors,
-        );
-        assert_eq!(reply, Ok(()));
-        assert_eq!(labels, expected);
+        let (ticks, predecessors) = labels(&network, departure);
+        assert_eq!(ticks, expected);
         assert_eq!(predecessors, [NO_ARC, 2, predecessor]);
-        assert_answered([answers::labels(&network, (0, departure), (3, 3))]);
     }
 }
 
@@ -445,6 +428,27 @@ fn evenings_in_towns_of_fixed_size() {
             .count();
         assert!(2 * after_midnight > labels.len(), "{}", town.name);
     }
+}
+
+/// Labels and predecessors from junction 0, on which both agree.
+fn labels(network: &OwnedNetwork, departure: u32) -> (Vec<u32>, Vec<u16>) {
+    let junctions = network.junctions as usize;
+    assert_answered([answers::labels(
+        network,
+        (0, departure),
+        (junctions, junctions),
+    )]);
+    let mut labels = vec![7; junctions];
+    let mut predecessors = vec![7; junctions];
+    let reply = cabinet::labels(
+        &network.lent(),
+        0,
+        departure,
+        &mut labels,
+        &mut predecessors,
+    );
+    assert_eq!(reply, Ok(()));
+    (labels, predecessors)
 }
 
 fn assert_answered<const N: usize>(outcomes: [Result<Outcome, Difference>; N]) {

@@ -10,7 +10,8 @@ use compare::inputs::towns::DEPARTURE;
 use compare::reference::limits::{NO_ARC, UNREACHED};
 
 use super::{
-    Moment, arc_number, arrival_on, assert_answered, lone_arc, number, sheet_number, small_town,
+    Moment, arc_number, arrival_on, assert_answered, labels, lone_arc, number, sheet_number,
+    small_town,
 };
 
 /// The numbers of Network check, Labels, Route and Sheet for the small town with some of
@@ -321,27 +322,6 @@ fn holds_after_a_long_drive() {
     let fast = |hold| arrival_on(&lone_arc(100_000, hold, &[0], &[200]), (0, 0));
     assert_eq!(fast(0), Some((18_000, 0)));
     assert_eq!(fast(1_200), Some((19_200, 0)));
-}
-
-/// Labels and predecessors from junction 0, on which both agree.
-fn labels(network: &OwnedNetwork, departure: u32) -> (Vec<u32>, Vec<u16>) {
-    let junctions = network.junctions as usize;
-    assert_answered([answers::labels(
-        network,
-        (0, departure),
-        (junctions, junctions),
-    )]);
-    let mut labels = vec![7; junctions];
-    let mut predecessors = vec![7; junctions];
-    let reply = cabinet::labels(
-        &network.lent(),
-        0,
-        departure,
-        &mut labels,
-        &mut predecessors,
-    );
-    assert_eq!(reply, Ok(()));
-    (labels, predecessors)
 }
 
 /// Junctions in a row, a metre at 36 from each to the next, with these holds.

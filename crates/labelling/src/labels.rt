@@ -26,7 +26,8 @@ pub fn labels(
     labels: &mut [u32],
     predecessors: &mut [u16],
 ) -> Labelled
-    ensures answer { λ r. ⌜ outcomeOf r ≡ labelsAnswer (lentNetwork junctions fences tails heads lengths holds speeds) source (departure .number) (now (labels .entry)) (now (predecessors .entry)) ⌝ }
+    ensures answer { λ r. ⌜ outcomeOf r ≡
+        labelsAnswer (lentNetwork junctions fences tails heads lengths holds speeds) source (departure .number) (now (labels .entry)) (now (predecessors .entry)) ⌝ }
     ensures labels { λ _. ⌜ now (labels .exit) ≡
         labelsAfter (lentNetwork junctions fences tails heads lengths holds speeds) source (departure .number) (now (labels .entry)) (now (predecessors .entry)) ⌝ }
     ensures predecessors { λ _. ⌜ now (predecessors .exit) ≡

@@ -88,7 +88,8 @@ pub fn sheet(
     labels: &mut [u32],
     figures: &mut [u32],
 ) -> Sheeted
-    ensures answer { λ r. ⌜ outcomeOf r ≡ sheetAnswer (lentNetwork junctions fences tails heads lengths holds speeds) source (now (departures .entry)) (now (labels .entry)) (now (figures .entry)) ⌝ }
+    ensures answer { λ r. ⌜ outcomeOf r ≡
+        sheetAnswer (lentNetwork junctions fences tails heads lengths holds speeds) source (now (departures .entry)) (now (labels .entry)) (now (figures .entry)) ⌝ }
     ensures labels { λ _. ⌜ now (labels .exit) ≡
         sheetLabelsAfter (lentNetwork junctions fences tails heads lengths holds speeds) source (now (departures .entry)) (now (labels .entry)) (now (figures .entry)) ⌝ }
     ensures figures { λ _. ⌜ now (figures .exit) ≡

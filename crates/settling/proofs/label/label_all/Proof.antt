@@ -26,7 +26,8 @@ Inv-loop junctions fences tails heads lengths holds speeds source departure labe
     Between (network junctions fences tails heads lengths holds speeds) source departure first next settled (tables labels predecessors intervals tree)
 
 abbrev μ-loop : tie.MeasureT-loop
-μ-loop junctions fences tails heads lengths holds speeds source departure labels₀ predecessors₀ first next settled₀ tree₀ intervals₀ labels predecessors settled tree intervals = waiting settled
+μ-loop junctions fences tails heads lengths holds speeds source departure labels₀ predecessors₀ first next settled₀ tree₀ intervals₀ labels predecessors settled tree intervals =
+    waiting settled
 
 -- the start, from the places that follow it
 abbrev start : tie.After-clear Inv-loop μ-loop → tie.Start Inv-loop μ-loop

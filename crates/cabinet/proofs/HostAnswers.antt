@@ -31,7 +31,7 @@ use Rattle.townfile.specs.declared.progress.Progress.{Progress}
 use Rattle.townfile.proofs.Described.{described-town, faultless-described}
 use Rattle.townfile.proofs.FaultNumbers.{Fault, text-fault}
 use Rattle.townfile.proofs.Held.{zeros-long, town-loads}
-use Rattle.cabinet.specs.Host.{hostList, afterRoute, labelOrCode, hostAnswer, HostRefusal, HostRefusesOnly, HostHasRoom, EarliestAt, Answers, HostAnswersEarliest}
+use Rattle.cabinet.specs.Host.{hostList, afterRoute, labelOrCode, hostAnswer, HostRefusal, HostRefusesOnly, EarliestAt, Answers, HostAnswersEarliest}
 
 -- A text describes a town, or Load refuses it for a fault.
 abbrev TownOrFault : List ℕ → Type 0
@@ -136,16 +136,6 @@ host-refuses-only text bytes source departure destination number e = go (loads t
     go (inr fault) =
         let answer = fault-answers text source departure destination (fault .2) in
         HostRefusal.text number (omega (arith, answer, e, fault .3 .0)) (omega (arith, answer, e, fault .3 .1))
-
-pub host-has-room : HostHasRoom
-host-has-room text bytes source departure destination number e = go (host-refuses-only text bytes source departure destination number e)
-  where
-    go : {n : ℕ} → HostRefusal n → (n ≡ 28 → ⊥) × (n ≡ 14 → ⊥) × (1 ≤ n → n ≤ 8 → ⊥) × (n ≡ 32 → ⊥)
-    go (HostRefusal.text n low high) = (λ e. omega arith, λ e. omega arith, λ some few. omega arith, λ e. omega arith)
-    go HostRefusal.source = (λ e. omega arith, λ e. omega arith, λ some few. omega arith, λ e. omega arith)
-    go HostRefusal.departure = (λ e. omega arith, λ e. omega arith, λ some few. omega arith, λ e. omega arith)
-    go HostRefusal.destination = (λ e. omega arith, λ e. omega arith, λ some few. omega arith, λ e. omega arith)
-    go HostRefusal.unreached = (λ e. omega arith, λ e. omega arith, λ some few. omega arith, λ e. omega arith)
 
 pub host-answers-earliest : HostAnswersEarliest
 host-answers-earliest text bytes source departure destination tick = (forward, back)

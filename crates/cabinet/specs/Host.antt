@@ -49,15 +49,11 @@ pub data HostRefusal : ℕ → Type 0 where
   destination : HostRefusal 12
   unreached : HostRefusal 13
 
--- Of a text of bytes the host question ends in no other refusal.
+-- Of a text of bytes the host question ends in no other refusal: its tables and its list are never too short (28, 14), and no town's network is
+-- refused (1 to 8, 32).
 abbrev pub HostRefusesOnly : Type 0
 HostRefusesOnly = (text : List ℕ) → Bytes text → (source departure destination number : ℕ) →
     hostAnswer text source departure destination ≡ refusalBase + number → HostRefusal number
-
--- Its tables and its list are never too short, and no town's network is refused: it never answers the code of 28, of 14, of 1 to 8, or of 32.
-abbrev pub HostHasRoom : Type 0
-HostHasRoom = (text : List ℕ) → Bytes text → (source departure destination number : ℕ) →
-    hostAnswer text source departure destination ≡ refusalBase + number → (number ≡ 28 → ⊥) × (number ≡ 14 → ⊥) × (1 ≤ number → number ≤ 8 → ⊥) × (number ≡ 32 → ⊥)
 
 -- A tick is the earliest arrival at a junction over all walks from the source, also over those that wait.
 pub record EarliestAt (N : Net) (source departure j tick : ℕ) : Type 0 where

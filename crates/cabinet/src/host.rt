@@ -4,7 +4,9 @@ ghost use Prim.Native.Nat.{_≤_};
 ghost use Rattle.model.specs.Limits.{maxArcs};
 ghost use Rattle.townfile.specs.Load.{counts, LongEnough, networkAt};
 ghost use Rattle.townfile.specs.Lent.{lentTables, tablesIn};
-ghost use Rattle.cabinet.specs.Host.{labelOrCode, hostAnswer};
+ghost use Rattle.loading.specs.Loaded.{readingOf};
+ghost use Rattle.routing.specs.Route.{outcomeOf, arrivalOf, routeAnswer, routeArrival};
+ghost use Rattle.cabinet.specs.Host.{hostList, afterLoad, afterRoute, hostAnswer};
 use loading::load::Loaded;
 use loading::load::load;
 use model::limit::MAX_ARCS;
@@ -16,8 +18,35 @@ use routing::route::route;
 
 const MAX_SPEEDS: usize = MAX_ARCS * MAX_INTERVALS;
 
-// The destination's label in the network that stands at the tables' start, or the code of Route's refusal.
-fn label_in_tables(
+// The code of Load's refusal; 0 where it loaded.
+fn load_code(loaded: Loaded) -> u32
+    ensures { λ r. ⌜ r ≡ afterLoad (readingOf loaded) 0 ⌝ }
+{
+    match loaded {
+        Loaded::Refused { refusal, line: _ } => refusal.code(),
+        Loaded::Counts {
+            junctions: _,
+            intervals: _,
+            arcs: _,
+        } => 0,
+    }
+}
+
+// The code of Route's refusal; 0 where it found a route.
+fn route_code(routed: Routed) -> u32
+    ensures { λ r. ⌜ r ≡ afterRoute (outcomeOf routed) 0 ⌝ }
+{
+    match routed {
+        Routed::Refused(refusal) => refusal.code(),
+        Routed::Arcs {
+            count: _,
+            arrival: _,
+        } => 0,
+    }
+}
+
+// Route in the network that stands at the tables' start, with room for every route.
+fn route_in_tables(
     junctions: u32,
     intervals: usize,
     arcs: usize,
@@ -29,16 +58,19 @@ fn label_in_tables(
     source: u32,
     departure: u32,
     destination: u32,
-) -> u32
+) -> Routed
     requires { ⌜ arcs ≤ maxArcs ⌝ }
     requires { ⌜ LongEnough (counts junctions intervals arcs) (tablesIn fences tails heads lengths speeds) ⌝ }
-    ensures { λ r. ⌜ r ≡ labelOrCode (networkAt (counts junctions intervals arcs) (lentTables fences tails heads lengths speeds)) source departure destination ⌝ }
+    ensures answer { λ r. ⌜ outcomeOf r ≡
+        routeAnswer (networkAt (counts junctions intervals arcs) (lentTables fences tails heads lengths speeds)) source departure destination hostList ⌝ }
+    ensures arrival { λ r. ⌜ arrivalOf r ≡
+        routeArrival (networkAt (counts junctions intervals arcs) (lentTables fences tails heads lengths speeds)) source departure destination hostList ⌝ }
 {
     let speed_count = arcs * intervals;
     // Town files have hold 0.
     let holds = [0u16; MAX_ARCS];
     let mut list = [0u16; MAX_JUNCTIONS];
-    match route(
+    route(
         junctions,
         &fences[..intervals],
         &tails[..arcs],
@@ -50,12 +82,10 @@ fn label_in_tables(
         Tick { number: departure },
         destination,
         &mut list,
-    ) {
-        Routed::Refused(refusal) => refusal.code(),
-        Routed::Arcs { count: _, arrival } => arrival,
-    }
+    )
 }
 
+// A refusal in either step ends the question at once.
 #[no_mangle]
 pub extern "C" fn cabinet_host_question(
     text: &[u8],
@@ -70,31 +100,37 @@ pub extern "C" fn cabinet_host_question(
     let mut heads = [0u16; MAX_ARCS];
     let mut lengths = [0u32; MAX_ARCS];
     let mut speeds = [0u8; MAX_SPEEDS];
-    match load(
+    let loaded = load(
         text,
         &mut fences,
         &mut tails,
         &mut heads,
         &mut lengths,
         &mut speeds,
-    ) {
-        Loaded::Refused { refusal, line: _ } => refusal.code(),
-        Loaded::Counts {
-            junctions,
-            intervals,
-            arcs,
-        } => label_in_tables(
-            junctions,
-            intervals as usize,
-            arcs as usize,
-            &fences,
-            &tails,
-            &heads,
-            &lengths,
-            &speeds,
-            source,
-            departure,
-            destination,
-        ),
-    }
+    );
+    let Loaded::Counts {
+        junctions,
+        intervals,
+        arcs,
+    } = loaded
+    else {
+        return load_code(loaded);
+    };
+    let routed = route_in_tables(
+        junctions,
+        intervals as usize,
+        arcs as usize,
+        &fences,
+        &tails,
+        &heads,
+        &lengths,
+        &speeds,
+        source,
+        departure,
+        destination,
+    );
+    let Routed::Arcs { count: _, arrival } = routed else {
+        return route_code(routed);
+    };
+    arrival
 }

@@ -1,65 +1,82 @@
--- `host::cabinet_host_question`: Load's refusal, or the town's network stands at the tables' start and Route's answer is the rest.
+-- `host::cabinet_host_question`: Load's refusal; or the town's network stands at the tables' start, and Route's refusal or arrival is the answer.
 use borrow.Author.Needs.{needs}
 use mathlib.Core.Path.{_≡_, sym, ap, _∙_}
 use denote.Ref.{now}
 use Rattle.model.specs.Network.{Network}
+use Rattle.routing.specs.Route.{outcomeOf, arrivalOf}
 use Rattle.loading.specs.Loaded.{readingOf}
 use Rattle.townfile.specs.FirstFault.{accepted}
 use Rattle.townfile.specs.Grammar.{Bytes, networkOf}
 use Rattle.townfile.specs.Tables.{townOf}
-use Rattle.townfile.specs.Load.{Counts, counts, Tables, tables, roomyTables, loadAnswer}
+use Rattle.townfile.specs.Load.{Counts, counts, Tables, tables, roomyTables, networkAt, loadAnswer}
 use Rattle.townfile.proofs.Held.{Stands, loaded-stands}
-use Rattle.cabinet.specs.Host.{labelOrCode}
-use Rattle.cabinet.proofs.HostSteps.{load-refuses, load-hands-on}
+use Rattle.cabinet.specs.Host.{afterLoad, afterRoute, labelOrCode, hostAnswer}
+use Rattle.cabinet.proofs.HostSteps.{load-refuses, load-hands-on, route-refuses, route-arrives}
 use Rattle.cabinet.proofs.host.cabinet_host_question.Statement.{statement}
 use Rattle.cabinet.proofs.host.cabinet_host_question.Tie as tie
 
-abbrev start : tie.After-load → tie.Start
-start c = c .before .before .before .before .before .before .before
+abbrev begun : tie.After-load → tie.Start
+begun c = search
 
-abbrev called : tie.After-speeds2 → tie.After-load
-called c = c .before .before .before .before .before
-
--- ---- Where the text is loaded
-
-abbrev loading : tie.After-known-told2 → tie.After-load
-loading c = called (c .before .before .before)
-
-abbrev reply : tie.After-known-told2 → Counts
-reply c = let fields = c .before .junctions .given .0 in counts (fields .0) (fields .1 .0) (fields .1 .1 .0)
-
-loaded : (c : tie.After-known-told2) → accepted (reply c) ≡ loadAnswer (now (start (loading c) .args .text)) roomyTables
-loaded c = sym (ap readingOf (c .before .junctions .given .1)) ∙ loading c .load .ensures .0
-
-bytes : (c : tie.After-load) → Bytes (now (start c .args .text))
-bytes c i h = c .before .before .before .before .before .before .shared-slice-known .given i .fits
-
-abbrev N : tie.After-known-told2 → Network
-N c = networkOf (townOf (now (start (loading c) .args .text)))
+bytes : (c : tie.After-load) → Bytes (now (begun c .args .text))
+bytes c i h = let text : tie.After-shared-slice-known = search in text .shared-slice-known .given i .fits
 
 abbrev held : tie.After-load → Tables
 held c = let last = c .load .last .1 in tables (last .0) (last .1 .0) (last .1 .1 .0) (last .1 .1 .1 .0) (last .1 .1 .1 .1 .0)
 
--- the town's network stands at the tables' start
-stands : (c : tie.After-known-told2) → Stands (N c) (reply c) (held (loading c))
-stands c = loaded-stands _ _ (bytes (loading c)) (loaded c) (loading c .load .ensures .1)
+-- ---- Where the text is loaded
 
--- ---- The parts that are asked for
+abbrev called : tie.After-loaded → tie.After-load
+called c = search
+
+abbrev reply : tie.After-loaded → Counts
+reply c = let fields = c .loaded .given .0 in counts (fields .0) (fields .1 .0) (fields .1 .1 .0)
+
+loaded : (c : tie.After-loaded) → accepted (reply c) ≡ loadAnswer (now (begun (called c) .args .text)) roomyTables
+loaded c = sym (ap readingOf (c .loaded .given .1)) ∙ called c .load .ensures .0
+
+abbrev N : tie.After-loaded → Network
+N c = networkOf (townOf (now (begun (called c) .args .text)))
+
+-- the town's network stands at the tables' start
+stands : (c : tie.After-loaded) → Stands (N c) (reply c) (held (called c))
+stands c = loaded-stands _ _ (bytes (called c)) (loaded c) (called c .load .ensures .1)
+
+-- ---- The answers
 
 returns : tie.Need-returns
 returns c =
-    let told = c .before .before in
-    c .code .ensures ∙ load-refuses _ _ _ _ (sym (ap readingOf (told .refusal .given .1)) ∙ called (told .before .before) .load .ensures .0)
+    let load : tie.After-load = search in
+    let told = c .before .enum-told .given .1 in
+    c .load-code .ensures ∙ ap (λ l. afterLoad (readingOf l) 0) told ∙ load-refuses _ _ _ _ (sym (ap readingOf told) ∙ load .load .ensures .0)
 
-label-in-tables-requires : tie.Need-label-in-tables-requires
-label-in-tables-requires c κs = let s = stands (c .before .before .before .before .before) in (s .few-arcs, s .long)
+route-in-tables-requires : tie.Need-route-in-tables-requires
+route-in-tables-requires c κs = let l : tie.After-loaded = search in (stands l .few-arcs, stands l .long)
+
+-- what Route comes to in the network of the tables is the answer
+handed-on : (c : tie.After-loaded) → let args = begun (called c) .args in
+    labelOrCode (networkAt (reply c) (held (called c))) (args .source) (args .departure) (args .destination)
+    ≡ hostAnswer (now (args .text)) (args .source) (args .departure) (args .destination)
+handed-on c =
+    let args = begun (called c) .args in
+    ap (λ N. labelOrCode N (args .source) (args .departure) (args .destination)) (stands c .is-network) ∙ load-hands-on _ _ _ _ (loaded c)
 
 returns-2 : tie.Need-returns-2
 returns-2 c =
-    let told = c .before .before .before .before .before .before in
-    let args = start (loading told) .args in
-    let town = ap (λ N. labelOrCode N (args .source) (args .departure) (args .destination)) (stands told .is-network) in
-    c .label-in-tables .ensures ∙ town ∙ load-hands-on _ _ _ _ (loaded told)
+    let l : tie.After-loaded = search in
+    let route : tie.After-route-in-tables = search in
+    let told = c .before .enum-told2 .given .1 in
+    c .route-code .ensures ∙ ap (λ r. afterRoute (outcomeOf r) 0) told
+    ∙ route-refuses _ _ _ _ (sym (ap outcomeOf told) ∙ route .route-in-tables .ensures .0)
+    ∙ handed-on l
+
+returns-3 : tie.Need-returns-3
+returns-3 c =
+    let l : tie.After-loaded = search in
+    let route : tie.After-route-in-tables = search in
+    let told = c .before .routed .given .1 in
+    let (answers, arrives) = route .route-in-tables .ensures in
+    route-arrives _ _ _ _ (sym (ap outcomeOf told) ∙ answers) (sym (ap arrivalOf told) ∙ arrives) ∙ handed-on l
 
 pub cabinet-host-question-spec : {M : Type 1} → statement M
 cabinet-host-question-spec =
@@ -72,15 +89,19 @@ cabinet-host-question-spec =
     (λ c. search needs)
     (λ c κs. search needs)
     (λ c. search needs)
+    (λ c. search needs)
     (λ c κs. search needs)
-    (λ c. search needs)
-    (λ c. search needs)
-    (λ c. search needs)
-    (λ c. search needs)
-    (λ c. search needs)
-    (λ c. search needs)
-    (λ c. search needs)
-    (λ c. search needs)
-    label-in-tables-requires
     returns
-    returns-2)
+    (λ c. search needs)
+    (λ c. search needs)
+    (λ c. search needs)
+    (λ c. search needs)
+    (λ c. search needs)
+    (λ c. search needs)
+    (λ c. search needs)
+    route-in-tables-requires
+    (λ c. search needs)
+    (λ c. search needs)
+    (λ c κs. search needs)
+    returns-2
+    returns-3)

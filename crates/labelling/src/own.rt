@@ -1,9 +1,9 @@
 // Labels into buffers of one's own, which have room for every network: the first entries of each are lent, one for each junction.
 ghost use mathlib.Core.Path.{_≡_};
 ghost use Prim.Native.Nat.{min};
-ghost use lib.ListN.{take};
 ghost use Rattle.model.specs.Lent.{lentNetwork};
-ghost use Rattle.labelling.specs.Labels.{outcomeOf, labelsAnswer, labelsAfter, predecessorsAfter};
+ghost use Rattle.labelling.specs.Labels.{outcomeOf};
+ghost use Rattle.labelling.specs.Within.{answerWithin, labelsWithin, predecessorsWithin};
 use crate::labels::Labelled;
 use model::tick::Tick;
 
@@ -27,12 +27,12 @@ pub fn labels_within(
     labels: &mut [u32],
     predecessors: &mut [u16],
 ) -> Labelled
-    ensures answer { λ r. ⌜ outcomeOf r ≡ labelsAnswer (lentNetwork junctions fences tails heads lengths holds speeds) source (departure .number)
-        (take junctions (now (labels .entry))) (take junctions (now (predecessors .entry))) ⌝ }
-    ensures labels { λ _. ⌜ take junctions (now (labels .exit)) ≡ labelsAfter (lentNetwork junctions fences tails heads lengths holds speeds) source (departure .number)
-        (take junctions (now (labels .entry))) (take junctions (now (predecessors .entry))) ⌝ }
-    ensures predecessors { λ _. ⌜ take junctions (now (predecessors .exit)) ≡ predecessorsAfter (lentNetwork junctions fences tails heads lengths holds speeds) source (departure .number)
-        (take junctions (now (labels .entry))) (take junctions (now (predecessors .entry))) ⌝ }
+    ensures answer { λ r. ⌜ outcomeOf r ≡
+        answerWithin (lentNetwork junctions fences tails heads lengths holds speeds) source (departure .number) (now (labels .entry)) (now (predecessors .entry)) ⌝ }
+    ensures labels { λ _. ⌜ now (labels .exit) ≡
+        labelsWithin (lentNetwork junctions fences tails heads lengths holds speeds) source (departure .number) (now (labels .entry)) (now (predecessors .entry)) ⌝ }
+    ensures predecessors { λ _. ⌜ now (predecessors .exit) ≡
+        predecessorsWithin (lentNetwork junctions fences tails heads lengths holds speeds) source (departure .number) (now (labels .entry)) (now (predecessors .entry)) ⌝ }
 {
     let count = junctions as usize;
     let labelled = lesser(count, labels.len());

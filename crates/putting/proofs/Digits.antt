@@ -15,8 +15,7 @@ use Rattle.townfile.specs.Bytes.{digit}
 use Rattle.townfile.specs.Numbers.{decimalFrom, decimal}
 use Rattle.townfile.proofs.Between.{every-between}
 use Rattle.townfile.proofs.Lacks.{Lacks}
-use Rattle.townfile.proofs.NumberForm.{number-keeps}
-use Rattle.putting.specs.Digits.{digitsWithin, digitsOf, DigitsGiveNumber, DigitsKeepForm}
+use Rattle.putting.specs.Digits.{digitsWithin, digitsOf, Decimal, DigitsAreDecimal, DigitsKeepForm}
 
 -- ---- A digit more
 
@@ -63,7 +62,7 @@ within-gives (suc k) n = elim (ltb-cases n 10) [
   | inr more ↦ rw (more .0, decimal-append 0 (digitsWithin k (n / 10)) ((48 + n % 10) ∷ []), within-gives k (n / 10)) (omega (arith, div-add-mod' n 10))
 ]
 
-pub digits-give-number : DigitsGiveNumber
+digits-give-number : (n : ℕ) → decimal (digitsOf n) ≡ n
 unfolding digitsOf
 digits-give-number n = within-gives n n
 
@@ -144,12 +143,16 @@ digits-lack byte n small i h e = omega (arith, digits-between n i h .0)
 zero-alone : (n : ℕ) → n ≡ 0 → length (digitsOf n) ≡ 1
 zero-alone n e = rw (e, digits-one 0 (omega arith))
 
-pub digits-keep-form : DigitsKeepForm
+pub digits-are-decimal : DigitsAreDecimal
 unfolding digitsOf
-digits-keep-form n h = number-keeps {n = n} (record {
+digits-are-decimal n = record {
   some-digit = some-within n n;
-  few-digits = digits-short n 6 h;
   digits = digits-between n;
   no-leading-zero = λ e. zero-alone n (within-leads n n (omega arith) e);
   value = digits-give-number n;
-})
+}
+
+pub digits-keep-form : DigitsKeepForm
+digits-keep-form n h =
+    let d = digits-are-decimal n in
+    record { some-digit = d .some-digit; few-digits = digits-short n 6 h; digits = d .digits; no-leading-zero = d .no-leading-zero; value = d .value }

@@ -7,7 +7,7 @@ use mathlib.Core.Option.{Option, none}
 use mathlib.Core.Logic.{by-cases}
 use native.Mathlib.Decide.{decLt}
 use native.Mathlib.Omega.{arith}
-use lib.ListN.{length, getD, take, length-reverse}
+use lib.ListN.{length, getD, length-reverse}
 use lib.Seq.{length-take-le}
 use borrow.Author.Tests.{lt-ltb, le-ltb, eq-eqb, ne-eqb, lt-leb}
 use Rattle.model.specs.Ticks.{never, last}
@@ -24,7 +24,9 @@ use Rattle.model.proofs.Trails.{Trail, here, back}
 use Rattle.model.proofs.Rules.{refused-before}
 use Rattle.checking.specs.Question.{questionRules, questionCheck, Taken}
 use Rattle.checking.proofs.QuestionRules.{taken-kept}
-use Rattle.labelling.specs.Labels.{bufferRules, labelsAnswer, labelsAfter, predecessorsAfter}
+use Rattle.labelling.specs.Labels.{bufferRules, labelsAnswer}
+use Rattle.labelling.specs.Within.{front, answerWithin, labelsWithin, predecessorsWithin}
+use Rattle.labelling.proofs.Front.{labels-front, predecessors-front}
 use Rattle.labelling.proofs.LabelRules.{answered}
 use Rattle.model.proofs.Entries.{getD-inside}
 use Rattle.routing.specs.code.Following.{backFrom, HasStep, Leads, Reached, Follows, no-junction, unreached, too-short, found}
@@ -66,13 +68,12 @@ module _ (N : Network) (source departure : ℕ) where
   -- By its contract.
   pub labels-called : (labels predecessors : List ℕ) → maxJunctions ≤ length labels → maxJunctions ≤ length predecessors →
       {outcome : Outcome (Unit {0})} {labels′ predecessors′ : List ℕ} →
-      (outcome ≡ labelsAnswer N source departure (take (N .junctions) labels) (take (N .junctions) predecessors))
-      × ((labels′ ≡ labelsAfter N source departure (take (N .junctions) labels) (take (N .junctions) predecessors))
-      × (predecessors′ ≡ predecessorsAfter N source departure (take (N .junctions) labels) (take (N .junctions) predecessors))) →
-      LabelsCalled N source departure outcome labels′ predecessors′
+      (outcome ≡ answerWithin N source departure labels predecessors)
+      × ((labels′ ≡ labelsWithin N source departure labels predecessors) × (predecessors′ ≡ predecessorsWithin N source departure labels predecessors)) →
+      LabelsCalled N source departure outcome (front N labels′) (front N predecessors′)
   labels-called labels predecessors labels-room predecessors-room (answers, (labels-end, predecessors-end)) =
-      let l = take (N .junctions) labels in
-      let p = take (N .junctions) predecessors in
+      let l = front N labels in
+      let p = front N predecessors in
       record {
         refuses = λ e.
             by-cases (decLt maxJunctions (N .junctions))
@@ -82,8 +83,8 @@ module _ (N : Network) (source departure : ℕ) where
             let predecessors-long = length-take-le (N .junctions) predecessors (omega arith) in
             sym (long-alike l p labels-long predecessors-long) ∙ sym answers ∙ e);
         taken = λ wrote. answered N source departure l p (sym answers ∙ wrote) .taken;
-        labels-are = λ wrote. rw (← answers, wrote) at labels-end;
-        predecessors-are = λ wrote. rw (← answers, wrote) at predecessors-end;
+        labels-are = λ wrote. rw (← answers, wrote) at (ap (front N) labels-end ∙ labels-front N source departure labels predecessors);
+        predecessors-are = λ wrote. rw (← answers, wrote) at (ap (front N) predecessors-end ∙ predecessors-front N source departure labels predecessors);
       }
 
 -- ---- Following them

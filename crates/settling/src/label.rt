@@ -5,7 +5,7 @@ ghost use Rattle.model.specs.Ticks.{never};
 ghost use Rattle.model.specs.Labels.{noArc, labelsOf, predecessorsOf};
 ghost use Rattle.model.specs.Network.{netOf};
 ghost use Rattle.model.specs.Lent.{lentNetwork, networkIn};
-ghost use Rattle.settling.specs.Labelable.{Labelable};
+ghost use Rattle.settling.specs.Labelable.{Labelable, LabelsLeft, PredecessorsLeft};
 ghost use Rattle.fitting.specs.Fitting.{Fits};
 use crate::link::link_arcs;
 use crate::settle::settle;
@@ -104,10 +104,10 @@ pub fn label_from(
     labels: &mut [u32],
     predecessors: &mut [u16],
 )
-    ensures labels { λ _. ⌜ (Labelable (lentNetwork junctions fences tails heads lengths holds speeds) source departure (now (labels .entry)) (now (predecessors .entry)) →
-        now (labels .exit) ≡ labelsOf (netOf (lentNetwork junctions fences tails heads lengths holds speeds)) source departure) ⌝ }
-    ensures predecessors { λ _. ⌜ (Labelable (lentNetwork junctions fences tails heads lengths holds speeds) source departure (now (labels .entry)) (now (predecessors .entry)) →
-        now (predecessors .exit) ≡ predecessorsOf (netOf (lentNetwork junctions fences tails heads lengths holds speeds)) source departure) ⌝ }
+    ensures labels { λ _. ⌜ LabelsLeft (lentNetwork junctions fences tails heads lengths holds speeds) source departure
+        (now (labels .entry)) (now (predecessors .entry)) (now (labels .exit)) ⌝ }
+    ensures predecessors { λ _. ⌜ PredecessorsLeft (lentNetwork junctions fences tails heads lengths holds speeds) source departure
+        (now (labels .entry)) (now (predecessors .entry)) (now (predecessors .exit)) ⌝ }
 {
     if !fits(
         junctions,

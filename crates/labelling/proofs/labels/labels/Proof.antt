@@ -57,7 +57,7 @@ returns-4 c =
     let question = taken (fits .before .before) in
     let labelable = kept-labelable _ _ _ _ _ question (kept fits) in
     let (labels-are, predecessors-are) = labelled .label-from .ensures in
-    ends-written _ _ _ _ _ (replies _ _ _ _ _ question (kept fits)) (labels-are labelable) (predecessors-are labelable)
+    ends-written _ _ _ _ _ (replies _ _ _ _ _ question (kept fits)) (labels-are .when-labelable labelable) (predecessors-are .when-labelable labelable)
 
 pub labels-spec : {M : Type 1} → statement M
 labels-spec =

@@ -1,9 +1,10 @@
 -- `own::labels_within`: Labels is lent the fronts of both buffers, and keeps their lengths.
 use borrow.Author.Needs.{needs}
-use mathlib.Core.Path.{sym, _∙_}
+use mathlib.Core.Path.{sym, ap, _∙_}
 use native.Mathlib.Omega.{arith}
 use lib.Seq.{length-take-le}
 use denote.Ref.{now}
+use Rattle.model.specs.Rules.{written}
 use Rattle.labelling.proofs.Front.{front-is, front-back}
 use Rattle.labelling.proofs.own.labels_within.Statement.{statement}
 use Rattle.labelling.proofs.own.labels_within.Tie as tie
@@ -16,18 +17,25 @@ slice-aggregate-labels-2 c = sym (length-take-le _ _ (omega arith))
 
 returns : tie.Need-returns
 returns c =
-    let l = c .before .before .before .before in
-    let count = l .before .before .before in
-    let s = count .before .before .before .before .before .before .before .before .before .before in
+    let s : tie.Start = search in
+    let lesser-labels : tie.After-lesser = search in
+    let lesser-predecessors : tie.After-lesser2 = search in
+    let called : tie.After-labels = search in
     let n = s .args .junctions in
-    let labels-count = count .before .lesser .ensures in
-    let predecessors-count = count .lesser2 .ensures in
+    let labels-count = lesser-labels .lesser .ensures in
+    let predecessors-count = lesser-predecessors .lesser2 .ensures in
     let labels-front = front-is (now (s .args .labels)) n _ labels-count in
     let predecessors-front = front-is (now (s .args .predecessors)) n _ predecessors-count in
-    let labels-back = front-back (now (s .args .labels)) n _ labels-count _ (l .labels .kept .1 .1 .1 .1 .1 .1 .1 .1 .1 .0) in
-    let predecessors-back = front-back (now (s .args .predecessors)) n _ predecessors-count _ (l .labels .kept .1 .1 .1 .1 .1 .1 .1 .1 .1 .1 .0) in (
-      rw (labels-front, predecessors-front) at (l .labels .ensures .0),
-      (labels-back ∙ rw (labels-front, predecessors-front) at (l .labels .ensures .1 .0), predecessors-back ∙ rw (labels-front, predecessors-front) at (l .labels .ensures .1 .1)),
+    let left = called .labels .last .1 .1 .1 .1 .1 .1 .1 .1 .1 in
+    let as-long = called .labels .kept .1 .1 .1 .1 .1 .1 .1 .1 .1 in
+    let (answers, (labels-are, predecessors-are)) = called .labels .ensures in (
+      rw (labels-front, predecessors-front) at answers,
+      (
+        front-back (now (s .args .labels)) n _ labels-count (left .0) (as-long .0)
+        ∙ ap (λ entries. written entries (now (s .args .labels))) (rw (labels-front, predecessors-front) at labels-are),
+        front-back (now (s .args .predecessors)) n _ predecessors-count (left .1 .0) (as-long .1 .0)
+        ∙ ap (λ entries. written entries (now (s .args .predecessors))) (rw (labels-front, predecessors-front) at predecessors-are),
+      ),
     )
 
 pub labels-within-spec : {M : Type 1} → statement M

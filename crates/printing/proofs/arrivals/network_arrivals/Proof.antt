@@ -10,6 +10,8 @@ use Rattle.model.specs.Labels.{labelsOf, predecessorsOf}
 use Rattle.model.specs.Network.{Network, network, netOf}
 use Rattle.model.specs.Rules.{replied}
 use Rattle.labelling.specs.Labels.{outcomeOf, labelsAnswer}
+use Rattle.labelling.specs.Within.{front}
+use Rattle.labelling.proofs.Front.{labels-front, predecessors-front}
 use Rattle.labelling.specs.declared.labels.Labelled.the-variants.{Written}
 use Rattle.printing.proofs.Networks.{few-junctions, table-fits, answer-refused, answer-written, labels-written, predecessors-written, table-fits-too, printed-too}
 use borrow.Author.Needs.{needs}
@@ -48,10 +50,14 @@ module _ (c : tie.After-labels-within) (told : c .labels-within .result ≡ Writ
   is-written = ap outcomeOf (sym told) ∙ c .labels-within .ensures .0
 
   labels-are : labels c ≡ labelsOf (netOf (N s)) (s .args .source) (s .args .departure)
-  labels-are = c .labels-within .ensures .1 .0 ∙ labels-written (N s) _ _ (s .pre) (part s) (part s) (part-long s) (part-long s) is-written
+  labels-are =
+      ap (front (N s)) (c .labels-within .ensures .1 .0) ∙ labels-front (N s) _ _ _ _
+      ∙ labels-written (N s) _ _ (s .pre) (part s) (part s) (part-long s) (part-long s) is-written
 
   predecessors-are : predecessors c ≡ predecessorsOf (netOf (N s)) (s .args .source) (s .args .departure)
-  predecessors-are = c .labels-within .ensures .1 .1 ∙ predecessors-written (N s) _ _ (s .pre) (part s) (part s) (part-long s) (part-long s) is-written
+  predecessors-are =
+      ap (front (N s)) (c .labels-within .ensures .1 .1) ∙ predecessors-front (N s) _ _ _ _
+      ∙ predecessors-written (N s) _ _ (s .pre) (part s) (part s) (part-long s) (part-long s) is-written
 
 put-parts-requires : tie.Need-put-parts-requires
 put-parts-requires c κs =

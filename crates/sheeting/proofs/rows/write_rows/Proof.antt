@@ -36,7 +36,7 @@ loop-again c =
     let w = turn .before .loop .inv .0 in
     let more = turn .loop-test .taken in
     let t = asked turn .taken in
-    let first = called .label-from .ensures .0 (record {
+    let first = called .label-from .ensures .0 .when-labelable (record {
       taken = record { accepted = t .accepted; source-below = t .source-below; departure-below = t .departures-below _ more };
       labels-long = sym (part-long (asked turn .labels-long) w more);
       predecessors-long = length-take-le _ _ (omega (arith, t .accepted .junctions-fit, turn .before .loop .inv .1));

@@ -25,18 +25,10 @@ use Rattle.model.proofs.Passed.{passed-at-most}
 use Rattle.model.proofs.WithInterval.{told}
 use Rattle.model.proofs.IntervalPieces.{counted-at-fence, time-on, same-interval, interval-at-end}
 use Rattle.driving.specs.ArcKept.{ArcKept}
-use Rattle.driving.specs.Tries.{endOf, coversFrom, Try, LeftOver}
+use Rattle.driving.specs.Tries.{endOf, coversFrom, Try, AtTry}
 use Rattle.driving.proofs.Tries.{day-and-time, counted-at-tick, try-before-last, rest-is-piece, left-over, within-try, after-try}
 
 -- ---- The loop's state
-
--- At the start of a try, at a time of day in interval k. The answer rests on the try; the length left over is what document 02, order 4, asks to be
--- shown here.
-pub record AtTry (fences speeds : List ℕ) (metres departure midnight k time left : ℕ) : Type 0 where
-  pub in-day : time < day
-  pub in-interval : suc k ≡ passed fences time
-  pub is-try : Try fences speeds metres departure (midnight + time) left
-  pub left-over : LeftOver (speedAt fences speeds) metres departure (midnight + time) left
 
 pub record Driving (departure interval metres : ℕ) (fences speeds : List ℕ) (midnight k time left : ℕ) : Type 0 where
   pub inside : k < min (length fences) (length speeds)

@@ -6,7 +6,7 @@ use mathlib.Core.List.{List}
 use lib.ListN.{getD}
 use Rattle.model.specs.Ticks.{day, last}
 use Rattle.model.specs.Flow.{spansOf, covered, arrival, ticksFor}
-use Rattle.model.specs.Intervals.{timeOfDay, intervalOf, speedAt}
+use Rattle.model.specs.Intervals.{timeOfDay, passed, intervalOf, speedAt}
 use Rattle.driving.specs.ArcKept.{ArcKept}
 
 -- The tick at which the interval of a tick ends: the next fence of its day, or the midnight that ends the day.
@@ -30,6 +30,14 @@ pub record LeftOver (v : ℕ → ℕ) (metres departure at left : ℕ) : Type 0 
   pub since-departure : departure ≤ at
   pub above-0 : 0 < left
   pub less-covered : left ≡ spansOf metres - covered v departure (at - departure)
+
+-- The numbers that the engine has at the start of a try: the time of day, the midnight before it, the interval k of that time, as many fences
+-- having passed as k and one, and what is left. The function `start_try` asks this of every turn.
+pub record AtTry (fences speeds : List ℕ) (metres departure midnight k time left : ℕ) : Type 0 where
+  pub in-day : time < day
+  pub in-interval : suc k ≡ passed fences time
+  pub is-try : Try fences speeds metres departure (midnight + time) left
+  pub left-over : LeftOver (speedAt fences speeds) metres departure (midnight + time) left
 
 -- ---- What is proved of them, on an arc that keeps the rules
 

@@ -7,6 +7,7 @@ ghost use Rattle.model.specs.Flow.{spansOf, ticksFor, arrival};
 ghost use Rattle.model.specs.Intervals.{speedAt, tickAndInterval?};
 ghost use Rattle.driving.specs.ArcKept.{ArcKept};
 ghost use Rattle.driving.specs.InPlan.{InPlan};
+ghost use Rattle.driving.specs.Tries.{AtTry};
 use crate::interval::interval_after;
 use crate::interval::interval_end;
 use crate::interval::time_of_day;
@@ -48,6 +49,22 @@ fn ticks_for(spans: u64, speed: u8) -> u64
     (spans + ((speed - 1) as u64)) / (speed as u64)
 }
 
+// A try starts. Nothing is done here: what document 02 wants shown at the start of each try is asked of the numbers that the engine then has.
+fn start_try(
+    departure: u32,
+    interval: usize,
+    metres: u32,
+    fences: &[u32],
+    speeds: &[u8],
+    midnight: u32,
+    k: usize,
+    time: u32,
+    left: u64,
+)
+    requires { ⌜ (ArcKept departure interval metres (now fences) (now speeds) → AtTry (now fences) (now speeds) metres departure midnight k time left) ⌝ }
+{
+}
+
 // The arrival of a vehicle that leaves at the departure, which lies in the interval. The steps are those of document 004, section 3, in its
 // order. A turn of the loop is a line of its list: the first for the interval of departure, each further one for the next interval. The
 // paper's number 0 is the interval of departure; k is an interval's number in the plan.
@@ -60,7 +77,7 @@ fn ticks_for(spans: u64, speed: u8) -> u64
 //     l₀ = v₀(f₁ − s)    l₁ − l₀ = v₁(f₂ − f₁)     covers
 //     T(s)               T(s)                      midnight + arrives
 //
-// At the start of each try what is left is above 0, and is 36 × length less all that was covered since the departure (`LeftOver`). Of an arc
+// At the start of each try what is left is above 0, and is 36 × length less all that was covered since the departure (`AtTry`). Of an arc
 // that breaks the rules nothing is said but that the call is safe and ends, and that the interval is one of the plan's.
 pub fn drive(departure: u32, interval: usize, metres: u32, fences: &[u32], speeds: &[u8]) -> Arrival
     ensures { λ r. ⌜ (ArcKept departure interval metres (now (fences .entry)) (now (speeds .entry)) →
@@ -81,6 +98,9 @@ pub fn drive(departure: u32, interval: usize, metres: u32, fences: &[u32], speed
     let mut midnight = departure - time;
     let mut left = SPANS_PER_METRE * (metres as u64);
     loop {
+        start_try(
+            departure, interval, metres, fences, speeds, midnight, k, time, left,
+        );
         // The try within the interval, first that of departure: T(s) = l/v₀ + s, if l/v₀ < f₁ − s.
         // In whole ticks the quotient is rounded up. Where l/v₀ is f₁ − s exactly, the paper's next line gives the same tick f₁, with nothing left
         // over; here that is within. The condition is asked as l ≤ v₀(f₁ − s): at a speed of 0 the interval covers nothing, and the vehicle

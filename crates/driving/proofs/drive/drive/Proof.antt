@@ -33,11 +33,11 @@ abbrev μ-loop : tie.MeasureT-loop
 μ-loop departure interval metres fences speeds intervals k₀ time₀ midnight₀ left₀ k time midnight left = turnsLeft intervals midnight k
 
 -- the places that a turn comes from
-abbrev at-loop : tie.After-covered-until Inv-loop μ-loop → tie.At-loop Inv-loop μ-loop
-at-loop c = c .before .before .before
+abbrev turn : tie.After-covered-until Inv-loop μ-loop → tie.At-loop Inv-loop μ-loop
+turn c = search
 
 abbrev counted : tie.At-loop Inv-loop μ-loop → tie.After-intervals-of Inv-loop μ-loop
-counted c = c .before .before .before .before
+counted c = search
 
 returns : tie.Need-returns Inv-loop μ-loop
 returns c = ((λ kept. absurd (omega (arith, c .if1 .taken, c .before .intervals-of .ensures, kept-inside kept))), tt)
@@ -46,62 +46,68 @@ returns-2 : tie.Need-returns-2 Inv-loop μ-loop
 returns-2 c = ((λ kept. ap (tickAndInterval? _) (never-leaves kept (c .if2 .taken))), tt)
 
 sub-midnight : tie.Need-sub-midnight Inv-loop μ-loop
-sub-midnight c = omega (arith, c .time-of-day .ensures, mod-le (c .before .before .before .before .before .before .args .departure) day)
+sub-midnight c = let s : tie.Start Inv-loop μ-loop = search in omega (arith, c .time-of-day .ensures, mod-le (s .args .departure) day)
 
 mul-left : tie.Need-mul-left Inv-loop μ-loop
-mul-left c = omega (arith, c .before .before .before .before .before .before .fits .metres)
+mul-left c = let s : tie.Start Inv-loop μ-loop = search in omega (arith, s .fits .metres)
 
 loop-holds : tie.Need-loop-holds Inv-loop μ-loop
 loop-holds c =
-    let called = c .before .before .before in
-    driving-starts (omega (arith, c .before .before .if1 .left, called .intervals-of .ensures)) (c .before .if2 .left) (called .before .before .before .fits .metres)
-    (c .time-of-day .ensures) refl
+    let s : tie.Start Inv-loop μ-loop = search in
+    let called : tie.After-intervals-of Inv-loop μ-loop = search in
+    driving-starts (omega (arith, c .before .before .if1 .left, called .intervals-of .ensures)) (c .before .if2 .left) (s .fits .metres) (c .time-of-day .ensures) refl
+
+start-try-requires : tie.Need-start-try-requires Inv-loop μ-loop
+start-try-requires c κs = c .loop .inv .when-kept
 
 shared-slice-read-speed : tie.Need-shared-slice-read-speed Inv-loop μ-loop
-shared-slice-read-speed c = omega (arith, c .before .loop .inv .inside)
+shared-slice-read-speed c = omega (arith, c .before .before .loop .inv .inside)
 
 interval-end-requires : tie.Need-interval-end-requires Inv-loop μ-loop
-interval-end-requires c κs = omega (arith, c .before .loop .inv .inside)
+interval-end-requires c κs = omega (arith, c .before .before .loop .inv .inside)
 
 ticks-for-requires : tie.Need-ticks-for-requires Inv-loop μ-loop
-ticks-for-requires c κs = omega (arith, at-loop (c .before) .loop .inv .left-fits)
+ticks-for-requires c κs = omega (arith, turn (c .before) .loop .inv .left-fits)
 
 -- the ticks until the interval's end
 within : (c : tie.After-ticks-for Inv-loop μ-loop) →
     let covering = c .before .before in
-    c .ticks-for .result ≤ covering .before .interval-end .result - at-loop covering .loop .time
+    c .ticks-for .result ≤ covering .before .interval-end .result - turn covering .loop .time
 within c =
     let covering = c .before .before in
     rw (c .ticks-for .ensures)
-    (by-end (at-loop covering .loop .inv) (covering .before .interval-end .ensures) (covering .covered-until .ensures)
+    (by-end (turn covering .loop .inv) (covering .before .interval-end .ensures) (covering .covered-until .ensures)
     (omega (arith, c .before .if3 .taken)))
 
 cast-arrives : tie.Need-cast-arrives Inv-loop μ-loop
-cast-arrives c = omega (arith, within c, c .before .before .before .interval-end .ok)
+cast-arrives c = let ending : tie.After-interval-end Inv-loop μ-loop = search in omega (arith, within c, ending .interval-end .ok)
 
 add-arrives : tie.Need-add-arrives Inv-loop μ-loop
 add-arrives c =
-    let covering = c .before .before in
-    omega (arith, within c, covering .before .interval-end .ok, at-loop covering .loop .inv .time-fits)
+    let covering : tie.After-covered-until Inv-loop μ-loop = search in
+    omega (arith, within c, covering .before .interval-end .ok, turn covering .loop .inv .time-fits)
 
 interval-after-requires : tie.Need-interval-after-requires Inv-loop μ-loop
 interval-after-requires c κs =
-    let l = at-loop (c .before .before .before .before) in
+    let l : tie.At-loop Inv-loop μ-loop = search in
     omega (arith, l .loop .inv .inside, counted l .intervals-of .ensures)
 
 sub-left : tie.Need-sub-left Inv-loop μ-loop
 sub-left c = omega (arith, c .if3 .left)
 
 add-k : tie.Need-add-k Inv-loop μ-loop
-add-k c = let l = at-loop (c .before) in omega (arith, l .loop .inv .inside, counted l .before .before .before .good)
+add-k c =
+    let s : tie.Start Inv-loop μ-loop = search in
+    let l = turn (c .before) in
+    omega (arith, l .loop .inv .inside, s .good)
 
 add-midnight : tie.Need-add-midnight Inv-loop μ-loop
-add-midnight c = omega (arith, at-loop (c .before .before) .loop .inv .before-last)
+add-midnight c = omega (arith, turn (c .before .before) .loop .inv .before-last)
 
 -- the first interval of the next day
 loop-less : tie.Need-loop-less Inv-loop μ-loop
 loop-less c =
-    let l = at-loop (c .before .before .before) in
+    let l : tie.At-loop Inv-loop μ-loop = search in
     let d = l .loop .inv in
     day-less (counted l .intervals-of .result) (l .loop .midnight) (d .days) (l .loop .k)
     (omega (arith, d .inside, counted l .intervals-of .ensures))
@@ -110,8 +116,8 @@ loop-less c =
 
 loop-again : tie.Need-loop-again Inv-loop μ-loop
 loop-again c =
-    let covering = c .before .before .before in
-    let l = at-loop covering in
+    let covering : tie.After-covered-until Inv-loop μ-loop = search in
+    let l = turn covering in
     drives-past-midnight (l .loop .inv) (covering .before .interval-end .ensures) (covering .covered-until .ensures) (c .before .before .if3 .left)
     (omega (arith, counted l .intervals-of .ensures, c .before .if5 .taken))
     (omega (arith, c .if6 .left)) (omega arith)
@@ -119,22 +125,22 @@ loop-again c =
 -- the next interval of the day
 loop-less-2 : tie.Need-loop-less-2 Inv-loop μ-loop
 loop-less-2 c =
-    let l = at-loop (c .before .before) in
+    let l = turn (c .before .before) in
     turn-less (counted l .intervals-of .result) (l .loop .midnight) (l .loop .k) (omega (arith, l .loop .inv .inside, counted l .intervals-of .ensures))
 
 loop-again-2 : tie.Need-loop-again-2 Inv-loop μ-loop
 loop-again-2 c =
     let covering = c .before .before in
-    let l = at-loop covering in
+    let l = turn covering in
     drives-on (l .loop .inv) (covering .before .interval-end .ensures) (covering .covered-until .ensures) (c .before .if3 .left)
     (omega (arith, l .loop .inv .inside, counted l .intervals-of .ensures, c .if5 .left))
     (record { fits = covering .before .interval-end .ok }) (omega arith)
 
 returns-3 : tie.Need-returns-3 Inv-loop μ-loop
 returns-3 c =
-    let driven = c .before .before in
+    let driven : tie.After-ticks-for Inv-loop μ-loop = search in
     let covering = driven .before .before in
-    let l = at-loop covering in (
+    let l = turn covering in (
       (λ kept.
           arrives-within (l .loop .inv) (covering .before .interval-end .ensures) (covering .covered-until .ensures) kept (driven .before .if3 .taken)
           (rw (driven .ticks-for .ensures)) (c .before .wrapping-add-u32 .ensures) (omega (arith, c .if4 .taken))),
@@ -146,7 +152,7 @@ returns-4 c =
     let summed = c .before .before in
     let driven = summed .before in
     let covering = driven .before .before in
-    let l = at-loop covering in (
+    let l = turn covering in (
       (λ kept.
           arrives-at-end (l .loop .inv) (covering .before .interval-end .ensures) (covering .covered-until .ensures) kept (driven .before .if3 .taken)
           (rw (driven .ticks-for .ensures)) (summed .wrapping-add-u32 .ensures) (omega (arith, c .before .if4 .left))
@@ -156,8 +162,8 @@ returns-4 c =
 
 returns-5 : tie.Need-returns-5 Inv-loop μ-loop
 returns-5 c =
-    let covering = c .before .before .before in
-    let l = at-loop covering in (
+    let covering : tie.After-covered-until Inv-loop μ-loop = search in
+    let l = turn covering in (
       (λ kept.
           ap (tickAndInterval? _)
           (never-arrives (l .loop .inv) (covering .before .interval-end .ensures) (covering .covered-until .ensures) kept (c .before .before .if3 .left)
@@ -180,6 +186,7 @@ drive-spec =
     (λ c. search needs)
     mul-left
     loop-holds
+    start-try-requires
     shared-slice-read-speed
     interval-end-requires
     (λ c κs. search needs)

@@ -62,8 +62,7 @@ fn start_try(
     left: u64,
 )
     requires { ⌜ (ArcKept departure interval metres (now fences) (now speeds) → AtTry (now fences) (now speeds) metres departure midnight k time left) ⌝ }
-{
-}
+{}
 
 // The arrival of a vehicle that leaves at the departure, which lies in the interval. The steps are those of document 004, section 3, in its
 // order. A turn of the loop is a line of its list: the first for the interval of departure, each further one for the next interval. The
@@ -99,7 +98,15 @@ pub fn drive(departure: u32, interval: usize, metres: u32, fences: &[u32], speed
     let mut left = SPANS_PER_METRE * (metres as u64);
     loop {
         start_try(
-            departure, interval, metres, fences, speeds, midnight, k, time, left,
+            departure,
+            interval,
+            metres,
+            fences,
+            speeds,
+            midnight,
+            k,
+            time,
+            left,
         );
         // The try within the interval, first that of departure: T(s) = l/v₀ + s, if l/v₀ < f₁ − s.
         // In whole ticks the quotient is rounded up. Where l/v₀ is f₁ − s exactly, the paper's next line gives the same tick f₁, with nothing left

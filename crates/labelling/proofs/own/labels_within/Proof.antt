@@ -32,9 +32,9 @@ returns c =
       rw (labels-front, predecessors-front) at answers,
       (
         front-back (now (s .args .labels)) n _ labels-count (left .0) (as-long .0)
-        ∙ ap (λ entries. written entries (now (s .args .labels))) (rw (labels-front, predecessors-front) at labels-are),
+            ∙ ap (λ entries. written entries (now (s .args .labels))) (rw (labels-front, predecessors-front) at labels-are),
         front-back (now (s .args .predecessors)) n _ predecessors-count (left .1 .0) (as-long .1 .0)
-        ∙ ap (λ entries. written entries (now (s .args .predecessors))) (rw (labels-front, predecessors-front) at predecessors-are),
+            ∙ ap (λ entries. written entries (now (s .args .predecessors))) (rw (labels-front, predecessors-front) at predecessors-are),
       ),
     )
 

@@ -1,4 +1,9 @@
-.PHONY: test prove run bench soak
+.PHONY: kit test prove run bench soak
+
+# Everything here needs the Rattle kit.
+run test prove bench soak: kit
+kit:
+	@command -v rt > /dev/null || { echo "make: the command rt is not there. It belongs to the Rattle kit; README.md says which one." >&2; exit 1; }
 
 # Proves and builds the programs, and asks them about the example towns. rt check uses all processors; building alone would use one.
 run:

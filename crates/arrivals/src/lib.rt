@@ -1,10 +1,10 @@
 // The program `arrivals`: it reads a question and a town file from standard input and prints when each junction is reached, and by
 // which arc. The language has no exit status, so the program's main, in C, returns what the function here answers.
-ghost use Rattle.putting.specs.Status.{statusFor};
-ghost use Rattle.printing.specs.Answer.{answerTo};
+ghost use Rattle.formatting.specs.Status.{statusFor};
+ghost use Rattle.arrivals_text.specs.Answer.{answerTo};
 ghost use Rattle.streams.specs.Exit.{ExitStatus, AnswersOrFails};
+use arrivals_text::arrivals::arrivals;
 use libc::STDIN_FILENO;
-use printing::arrivals::arrivals;
 use streams::answer::FAILED;
 use streams::answer::ROOM;
 use streams::answer::print_answer;

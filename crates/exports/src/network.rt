@@ -2,7 +2,7 @@
 ghost use mathlib.Core.Path.{_≡_};
 ghost use Rattle.model.specs.NetworkRules.{networkCheck};
 ghost use Rattle.model.specs.Lent.{lentNetwork};
-ghost use Rattle.arriving.specs.ArcArrival.{arcArrival};
+ghost use Rattle.arc_arrival.specs.ArcArrival.{arcArrival};
 ghost use Rattle.labelling.specs.Labels.{labelsAnswer, labelsAfter, predecessorsAfter};
 ghost use Rattle.sheeting.specs.Sheet.{sheetAnswer, sheetLabelsAfter, sheetFiguresAfter};
 ghost use Rattle.routing.specs.Route.{routeAnswer, arcsAfter};
@@ -10,8 +10,8 @@ ghost use Rattle.exports.specs.Codes.{numberOr0, arrivalCode, countCode}
 use crate::bit::BIT_32;
 use crate::bit::BIT_62;
 use crate::bit::BIT_63;
-use arriving::arc::ArcArrival;
-use arriving::arc::arc_arrival;
+use arc_arrival::arc::ArcArrival;
+use arc_arrival::arc::arc_arrival;
 use checking::network::NetworkCheck;
 use checking::network::network_check;
 use labelling::labels::Labelled;

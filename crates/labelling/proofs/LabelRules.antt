@@ -14,7 +14,7 @@ use Rattle.model.proofs.Demands.{demand-2, only-tables-of-network}
 use Rattle.model.proofs.Rules.{kept-replies, replies-kept, refused-at, refused-before, kept-before, kept-append, both-true, true-both}
 use Rattle.checking.specs.Question.{questionRules, questionCheck}
 use Rattle.checking.proofs.QuestionRules.{kept-taken, taken-kept}
-use Rattle.settling.specs.Labelable.{Labelable}
+use Rattle.dijkstra.specs.Labelable.{Labelable}
 use Rattle.labelling.specs.Labels.{bufferRules, labelsAnswer, labelsAfter, predecessorsAfter, LabelsRepliesWhenLabelable, Demand2OfCall}
 
 module _ (N : Network) (source departure : ℕ) (labels predecessors : List ℕ) where

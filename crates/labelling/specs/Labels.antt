@@ -15,7 +15,7 @@ use Rattle.model.specs.Walks.{Earliest}
 use Rattle.refusals.specs.Refusals.{numberOf}
 use Rattle.model.specs.Rules.{Outcome, refused, replied, Rule, _if_, firstBroken, after}
 use Rattle.checking.specs.Question.{questionRules}
-use Rattle.settling.specs.Labelable.{Labelable}
+use Rattle.dijkstra.specs.Labelable.{Labelable}
 use Rattle.labelling.specs.declared.labels.Labelled.{Labelled}
 use Rattle.labelling.specs.declared.labels.Labelled.the-variants.{Written, Refused}
 

@@ -4,9 +4,9 @@ ghost use Rattle.model.specs.Lent.{lentNetwork};
 ghost use Rattle.labelling.specs.Labels.{outcomeOf, labelsAnswer, labelsAfter, predecessorsAfter};
 use checking::network::NetworkCheck;
 use checking::question::question_check;
+use dijkstra::label::label_from;
 use model::tick::Tick;
 use refusals::refusal::Refusal;
-use settling::label::label_from;
 
 pub enum Labelled {
     Written,

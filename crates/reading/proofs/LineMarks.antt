@@ -16,12 +16,12 @@ use Rattle.townfile.specs.Lines.{formKeeps, valuesKeep, townKeeps, junctionKeep
 use Rattle.townfile.specs.declared.progress.Progress.{Progress}
 use Rattle.fields.specs.Fields.{lineFrom, wordFrom, fieldAt, fieldsFrom, numbersFrom}
 use Rattle.reading.specs.LineSteps.{Step, step, lineStep}
-use Rattle.series.specs.NumbersRead.{numbersRead}
+use Rattle.number_rows.specs.NumbersRead.{numbersRead}
 use Rattle.reading.specs.code.Kinds.{ofNumbers, inTurnOnly, withName, withJunction, ofComment, townStep, fencesStep, junctionStep, arcStep, commentStep}
 use Rattle.fields.specs.Fields.{nameAt}
 use Rattle.fields.specs.declared.field.Field.{Field}
 use Rattle.fields.specs.declared.field.Field.the-variants as field
-use Rattle.series.specs.declared.numbers.Numbers.the-variants.{Within, Outside, Malformed}
+use Rattle.number_rows.specs.declared.numbers.Numbers.the-variants.{Within, Outside, Malformed}
 use Rattle.fields.specs.declared.field.Rest.the-variants.{Good}
 use Rattle.fields.specs.declared.field.Rest.the-variants as rest
 use Rattle.fields.proofs.BehindMark.{BehindMark}

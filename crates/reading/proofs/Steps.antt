@@ -21,11 +21,11 @@ use Rattle.fields.specs.declared.field.Rest.{Rest}
 use Rattle.fields.specs.declared.field.Rest.the-variants as rest
 use Rattle.fields.proofs.LineFrom.{space-ends, word-goes-on}
 use Rattle.fields.proofs.FieldsLeft.{field-read, number-goes}
-use Rattle.series.specs.NumbersRead.{numbersRead, withinIf}
-use Rattle.series.specs.declared.numbers.Numbers.{Numbers}
-use Rattle.series.specs.declared.numbers.Numbers.the-variants.{Within, Outside, Malformed}
-use Rattle.series.proofs.NumbersLeft.{numbers-same, within-both}
-use Rattle.series.proofs.NumberLoops.{Left, all-left, left-malformed, left-taken, left-decides}
+use Rattle.number_rows.specs.NumbersRead.{numbersRead, withinIf}
+use Rattle.number_rows.specs.declared.numbers.Numbers.{Numbers}
+use Rattle.number_rows.specs.declared.numbers.Numbers.the-variants.{Within, Outside, Malformed}
+use Rattle.number_rows.proofs.NumbersLeft.{numbers-same, within-both}
+use Rattle.number_rows.proofs.NumberLoops.{Left, all-left, left-malformed, left-taken, left-decides}
 use Rattle.reading.specs.LineSteps.{step}
 use Rattle.reading.specs.code.Kinds.{ofNumbers, inTurnOnly, townStep, arcFits, withName, withJunction, junctionStep, ofComment, commentStep}
 

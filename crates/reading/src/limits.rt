@@ -7,7 +7,7 @@ use model::limit::MAX_ARCS;
 use model::limit::MAX_INTERVALS;
 use model::limit::MAX_JUNCTIONS;
 use model::limit::MAX_LENGTH;
-use series::limits::both;
+use number_rows::limits::both;
 use townfile::progress::Progress;
 
 pub(crate) fn town_keeps(junctions: u32, intervals: u32) -> bool

@@ -1,10 +1,10 @@
 // The program `sheet`: it reads a source, a list of departures and a town file from standard input and prints each junction's figures
 // over all of the departures. Its main, in C, returns what the function here answers.
-ghost use Rattle.putting.specs.Status.{statusFor};
-ghost use Rattle.sheettext.specs.Answer.{sheetFor};
+ghost use Rattle.formatting.specs.Status.{statusFor};
+ghost use Rattle.sheet_text.specs.Answer.{sheetFor};
 ghost use Rattle.streams.specs.Exit.{ExitStatus, AnswersOrFails};
 use libc::STDIN_FILENO;
-use sheettext::sheet::sheet_text;
+use sheet_text::sheet::sheet_text;
 use streams::answer::FAILED;
 use streams::answer::ROOM;
 use streams::answer::print_answer;

@@ -14,7 +14,7 @@ use Rattle.model.proofs.Demands.{demand-2}
 use Rattle.model.proofs.Networks.{accepted-sound}
 use Rattle.model.proofs.Tests.{eqb-cases, leb-cases}
 use Rattle.model.proofs.Walks.{arrives-from-departure}
-use Rattle.settling.specs.Labelable.{Labelable}
+use Rattle.dijkstra.specs.Labelable.{Labelable}
 use Rattle.labelling.proofs.LabelRules.{labels-replies-when-labelable}
 use Rattle.sheeting.specs.Sheet.{SheetOfCallMeans}
 use Rattle.sheeting.proofs.RowByRow.{row-is}

@@ -3,9 +3,9 @@ ghost use mathlib.Core.Path.{_≡_};
 ghost use Rattle.model.specs.Lent.{lentNetwork, networkIn};
 ghost use Rattle.sheeting.specs.Rows.{rowsOf};
 ghost use Rattle.sheeting.specs.code.Writing.{RowsAsked};
+use dijkstra::label::label_from;
 use model::label::NO_ARC;
 use model::limit::MAX_JUNCTIONS;
-use settling::label::label_from;
 
 // The predecessors are written too, and not handed out.
 pub(crate) fn write_rows(

@@ -23,9 +23,9 @@ use Rattle.model.proofs.IntervalPieces.{interval-is-piece}
 use Rattle.model.proofs.NetworkRules.{accepts-when-kept}
 use Rattle.model.proofs.Pieces.{arrival-over-piece}
 use Rattle.model.proofs.Rules.{every-at, fences-kept}
-use Rattle.settling.specs.Labelable.{Labelable}
+use Rattle.dijkstra.specs.Labelable.{Labelable}
 use Rattle.labelling.proofs.LabelRules.{labels-replies-when-labelable}
-use Rattle.arriving.specs.ArcArrival.{arcArrival}
+use Rattle.arc_arrival.specs.ArcArrival.{arcArrival}
 use Rattle.townfile.specs.Bytes.{upTo, onFirst, pieces}
 use Rattle.townfile.specs.Numbers.{decimalFrom, numberKeeps}
 use Rattle.townfile.specs.Lines.{markOf, nameKeeps, formKeeps, valuesKeep, lineRead, lineAnswer}

@@ -8,7 +8,7 @@ use mathlib.Core.Option.{Option, none, some}
 use lib.ListN.{length}
 use Rattle.model.specs.Network.{Network}
 use Rattle.model.specs.Rules.{replied}
-use Rattle.arriving.specs.ArcArrival.{arcArrival}
+use Rattle.arc_arrival.specs.ArcArrival.{arcArrival}
 use Rattle.labelling.specs.Labels.{labelsAnswer, labelsAfter}
 use Rattle.townfile.specs.Grammar.{Town, Describes, networkOf, joined}
 use Rattle.townfile.specs.FirstFault.{refusedAt}

@@ -1,9 +1,9 @@
 // A program's answer: its input has room for every input that it answers, and its text is written with an exit status.
-ghost use Rattle.putting.specs.Status.{statusOf};
+ghost use Rattle.formatting.specs.Status.{statusOf};
 ghost use Rattle.streams.specs.Exit.{AnswersOrFails};
 use crate::output::write_all;
+use formatting::exit::exit_status;
 use libc::STDOUT_FILENO;
-use putting::exit::exit_status;
 
 // One byte more than an input may have, so that a longer one is seen to be longer without being read to its end.
 pub const ROOM: usize = 65_537;

@@ -7,9 +7,9 @@ use mir.Syntax.{w32}
 use mir.ValLaws.{toZ-ofZ}
 use lib.ListN.{length}
 use Rattle.io.proofs.Counting.{front}
-use Rattle.putting.specs.Status.{statusOf}
-use Rattle.printing.specs.Answer.{arrivalsText}
-use Rattle.printing.proofs.Status.{arrivals-status-tells}
+use Rattle.formatting.specs.Status.{statusOf}
+use Rattle.arrivals_text.specs.Answer.{arrivalsText}
+use Rattle.arrivals_text.proofs.Status.{arrivals-status-tells}
 use Rattle.streams.proofs.Exit.{text-inside, text-begins}
 use Rattle.arrivals.proofs.answer.Statement.{statement}
 use Rattle.arrivals.proofs.answer.Tie as tie

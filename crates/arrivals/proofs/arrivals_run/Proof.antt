@@ -2,8 +2,8 @@
 use borrow.Author.Needs.{needs}
 use mir.Syntax.{w32}
 use mir.ValLaws.{toZ-ofZ}
-use Rattle.printing.specs.Answer.{answerTo}
-use Rattle.putting.proofs.Status.{status-at-most-one}
+use Rattle.arrivals_text.specs.Answer.{answerTo}
+use Rattle.formatting.proofs.Status.{status-at-most-one}
 use Rattle.streams.proofs.Counted.{counted}
 use Rattle.streams.proofs.Exit.{status-answered}
 use Rattle.arrivals.proofs.arrivals_run.Statement.{statement}

@@ -13,9 +13,9 @@ use Rattle.fields.specs.declared.field.Field.{Field}
 use Rattle.fields.specs.declared.field.Field.the-variants as field
 use Rattle.fields.specs.declared.field.Rest.{Rest}
 use Rattle.fields.specs.declared.field.Rest.the-variants as rest
-use Rattle.series.specs.NumbersRead.{numbersRead}
-use Rattle.series.specs.declared.numbers.Numbers.{Numbers}
-use Rattle.series.specs.declared.numbers.Numbers.the-variants.{Within, Outside, Malformed}
+use Rattle.number_rows.specs.NumbersRead.{numbersRead}
+use Rattle.number_rows.specs.declared.numbers.Numbers.{Numbers}
+use Rattle.number_rows.specs.declared.numbers.Numbers.the-variants.{Within, Outside, Malformed}
 use Rattle.reading.specs.LineSteps.{Step, step}
 
 abbrev pub ofNumbers : Numbers → Progress → Outcome Step

@@ -7,9 +7,9 @@ use mir.Syntax.{w32}
 use mir.ValLaws.{toZ-ofZ}
 use lib.ListN.{length}
 use Rattle.io.proofs.Counting.{front}
-use Rattle.putting.specs.Status.{statusOf}
-use Rattle.sheettext.specs.Answer.{sheetText}
-use Rattle.sheettext.proofs.Status.{sheet-status-tells}
+use Rattle.formatting.specs.Status.{statusOf}
+use Rattle.sheet_text.specs.Answer.{sheetText}
+use Rattle.sheet_text.proofs.Status.{sheet-status-tells}
 use Rattle.streams.proofs.Exit.{text-inside, text-begins}
 use Rattle.sheet.proofs.answer.Statement.{statement}
 use Rattle.sheet.proofs.answer.Tie as tie

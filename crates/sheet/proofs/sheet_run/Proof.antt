@@ -2,8 +2,8 @@
 use borrow.Author.Needs.{needs}
 use mir.Syntax.{w32}
 use mir.ValLaws.{toZ-ofZ}
-use Rattle.sheettext.specs.Answer.{sheetFor}
-use Rattle.putting.proofs.Status.{status-at-most-one}
+use Rattle.sheet_text.specs.Answer.{sheetFor}
+use Rattle.formatting.proofs.Status.{status-at-most-one}
 use Rattle.streams.proofs.Counted.{counted}
 use Rattle.streams.proofs.Exit.{status-answered}
 use Rattle.sheet.proofs.sheet_run.Statement.{statement}

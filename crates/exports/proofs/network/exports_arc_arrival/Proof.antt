@@ -1,6 +1,6 @@
 -- `network::exports_arc_arrival`: the code of what Arc arrival answers.
 use borrow.Author.Needs.{needs}
-use Rattle.arriving.specs.ArcArrival.{outcomeOf}
+use Rattle.arc_arrival.specs.ArcArrival.{outcomeOf}
 use Rattle.exports.specs.Codes.{arrivalCode}
 use Rattle.exports.proofs.Coded.{coded}
 use Rattle.exports.proofs.network.exports_arc_arrival.Statement.{statement}

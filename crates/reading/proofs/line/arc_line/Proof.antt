@@ -7,8 +7,8 @@ use native.Mathlib.Omega.{arith}
 use borrow.Author.Tests.{le-leb, lt-leb}
 use denote.Ref.{now}
 use Rattle.townfile.specs.Lines.{arcRead}
-use Rattle.series.specs.declared.numbers.Numbers.{Numbers}
-use Rattle.series.specs.declared.numbers.Numbers.the-variants.{Within}
+use Rattle.number_rows.specs.declared.numbers.Numbers.{Numbers}
+use Rattle.number_rows.specs.declared.numbers.Numbers.the-variants.{Within}
 use Rattle.reading.specs.code.Kinds.{ofNumbers, arcStep}
 use Rattle.reading.proofs.Steps.{numbers-in-turn, refused-alike, arc-counted}
 use Rattle.reading.proofs.line.arc_line.Statement.{statement}

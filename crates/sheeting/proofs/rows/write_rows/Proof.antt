@@ -1,4 +1,4 @@
--- `rows::write_rows`: at each turn the buffer starts with the rows of the departures before (`RowsWritten`), and the predecessors have
+-- `test_rows::write_rows`: at each turn the buffer starts with the rows of the departures before (`RowsWritten`), and the predecessors have
 -- room for every network's junctions.
 use Prim.Native.Nat.{_-_}
 use mathlib.Core.Path.{_≡_, refl, sym, _∙_}

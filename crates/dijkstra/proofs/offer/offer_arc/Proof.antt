@@ -1,0 +1,62 @@
+-- `offer::offer_arc` lends the engine the arc's part of the speeds: it arrives and the offer is made, or it does not and nothing is.
+use borrow.Author.Needs.{needs}
+use mathlib.Core.Path.{sym, ap, _∙_}
+use native.Mathlib.Nat.{add-sub-cancel-left}
+use native.Mathlib.Omega.{arith}
+use mir.Facts.{fits-widen}
+use denote.Ref.{now}
+use Rattle.model.specs.Ticks.{arrivedAt}
+use Rattle.dijkstra.specs.code.Offering.{ArrivesOn, missed, offered}
+use Rattle.dijkstra.proofs.offer.offer_arc.Statement.{statement}
+use Rattle.dijkstra.proofs.offer.offer_arc.Tie as tie
+
+abbrev start : tie.After-drive-with-hold → tie.Start
+start c = c .before .before .before .before .before .before .before .before .before .before
+
+driven : (c : tie.After-drive-with-hold) → ArrivesOn (now (start c .args .fences)) (now (start c .args .lengths)) (now (start c .args .holds)) (now (start c .args .speeds)) (start c .args .a)
+    (start c .args .tick) (start c .args .interval) (arrivedAt (c .drive-with-hold .result))
+driven c = rw add-sub-cancel-left at (c .drive-with-hold .ensures .0)
+
+cast-hold : tie.Need-cast-hold
+cast-hold c = fits-widen tt (c .shared-slice-known6 .given _)
+
+-- The arrival's interval is one of the plan's, which has few.
+cast-noted : tie.Need-cast-noted
+cast-noted c =
+    let told = c .before in
+    let d = told .before .before in
+    omega (arith, rw (told .arrival .given .1) at (d .drive-with-hold .ensures .1), start d .pre .0 .few-intervals)
+
+returns : tie.Need-returns
+returns c =
+    let offering = c .before .before .before .before in
+    let arrival = offering .before .before .before .before .before .before in
+    let told = arrival .arrival .given .1 in
+    offered (λ kept. sym (ap arrivedAt told) ∙ driven (arrival .before .before) kept) (offering .offer .ensures)
+
+returns-2 : tie.Need-returns-2
+returns-2 c = missed (λ kept. sym (ap arrivedAt (c .enum-told .given .1)) ∙ driven (c .before .before) kept)
+
+pub offer-arc-spec : {M : Type 1} → statement M
+offer-arc-spec =
+    tie.close
+    (tie.spec
+    (λ c. search needs)
+    (λ c. search needs)
+    (λ c. search needs)
+    (λ c. search needs)
+    (λ c. search needs)
+    (λ c. search needs)
+    cast-hold
+    (λ c. search needs)
+    (λ c. search needs)
+    (λ c. search needs)
+    (λ c κs. search needs)
+    (λ c. search needs)
+    cast-noted
+    (λ c κs. search needs)
+    (λ c. search needs)
+    (λ c. search needs)
+    (λ c. search needs)
+    returns
+    returns-2)

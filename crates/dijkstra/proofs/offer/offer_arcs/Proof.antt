@@ -1,0 +1,112 @@
+-- `offer::offer_arcs` keeps `Onward` along the links, whose arcs have ever higher numbers.
+use Prim.Native.Nat.{_-_, _%_, _<_}
+use mathlib.Core.Logic.{⊎-elim}
+use native.Mathlib.Omega.{arith}
+use lib.ListN.{length, getD}
+use mir.Facts.{fits-widen}
+use denote.Ref.{now}
+use borrow.Author.Tests.{not-true, not-false}
+use Rattle.model.specs.Labels.{noArc}
+use Rattle.dijkstra.specs.code.Offering.{tables, Offerable, none-left}
+use Rattle.dijkstra.proofs.Links.{Onward, onward-starts, onward-arc, onward-offerable, onward-skips, onward-offers, next-higher}
+use Rattle.dijkstra.proofs.offer.offer_arcs.Statement.{statement}
+use Rattle.dijkstra.proofs.offer.offer_arcs.Tie as tie
+
+abbrev Inv-loop : tie.InvT-loop
+Inv-loop first tick interval fences heads lengths holds speeds next settled labels₀ predecessors₀ intervals₀ tree₀ a₀ labels predecessors intervals tree a =
+    Onward first fences heads lengths holds speeds next (tables labels₀ predecessors₀ intervals₀ tree₀) settled tick interval a (tables labels predecessors intervals tree)
+
+abbrev μ-loop : tie.MeasureT-loop
+μ-loop first tick interval fences heads lengths holds speeds next settled labels₀ predecessors₀ intervals₀ tree₀ a₀ labels predecessors intervals tree a = noArc - a
+
+abbrev start : tie.After-slice-known2 Inv-loop μ-loop → tie.Start Inv-loop μ-loop
+start c = c .before .before .before .before .before .before .before
+
+abbrev handed : tie.In-loop Inv-loop μ-loop → tie.Start Inv-loop μ-loop
+handed c = start (c .before .before)
+
+-- the arc at hand, and what its offer is handed
+arc-at : (c : tie.In-loop Inv-loop μ-loop) → c .before .loop .a < length (now (handed c .args .heads))
+arc-at c = c .before .loop .inv .arc-is (c .loop-test .taken)
+
+few : (c : tie.In-loop Inv-loop μ-loop) → c .before .loop .a < 640
+few c = omega (arith, arc-at c, handed c .pre .few-arcs)
+
+abbrev offerable : (c : tie.In-loop Inv-loop μ-loop) →
+    Offerable (getD (now (handed c .args .heads)) (c .before .loop .a) 0 % 256) (tables (c .before .loop .labels) (c .before .loop .predecessors) (c .before .loop .intervals) (c .before .loop .tree))
+offerable c = onward-offerable (handed c .pre) (c .before .loop .inv) (c .loop-test .taken)
+
+loop-holds : tie.Need-loop-holds Inv-loop μ-loop
+loop-holds c = onward-starts (start c .pre) _ _ _
+
+cast-arc : tie.Need-cast-arc Inv-loop μ-loop
+cast-arc c = omega (arith, few c)
+
+mul-head : tie.Need-mul-head Inv-loop μ-loop
+mul-head c = omega (arith, few c)
+
+shared-slice-read-head : tie.Need-shared-slice-read-head Inv-loop μ-loop
+shared-slice-read-head c = arc-at (c .before)
+
+cast-head : tie.Need-cast-head Inv-loop μ-loop
+cast-head c = fits-widen tt (c .shared-slice-known6 .given _)
+
+element-copy-out-if1 : tie.Need-element-copy-out-if1 Inv-loop μ-loop
+element-copy-out-if1 c = offerable (c .before) .is-junction
+
+offer-arc-requires : tie.Need-offer-arc-requires Inv-loop μ-loop
+offer-arc-requires c κs =
+    let i = c .before .before .before .before .before .before .before in
+    (onward-arc (handed i .pre) (i .before .loop .inv) (i .loop-test .taken), offerable i)
+
+mul-a : tie.Need-mul-a Inv-loop μ-loop
+mul-a c = omega (arith, few (c .before .before .before))
+
+element-copy-out-a : tie.Need-element-copy-out-a Inv-loop μ-loop
+element-copy-out-a c = few (c .before .before .before)
+
+loop-less : tie.Need-loop-less Inv-loop μ-loop
+loop-less c =
+    let i = c .before .before .before .before in
+    next-higher (handed i .pre) (i .before .loop .inv) (i .loop-test .taken)
+
+loop-again : tie.Need-loop-again Inv-loop μ-loop
+loop-again c =
+    let i = c .before .before .before .before in
+    let some = i .loop-test .taken in
+    ⊎-elim
+    (λ w. rw (w .10, w .11, w .12, w .13) (onward-offers (handed i .pre) (i .before .loop .inv) some (not-true _ (w .0 .taken)) (w .5 .ensures)))
+    (λ w. rw (w .1, w .2, w .3, w .4) (onward-skips (handed i .pre) (i .before .loop .inv) some (not-false _ (w .0 .left))))
+    (c .before .if1 .came)
+
+same-length : tie.Need-same-length Inv-loop μ-loop
+same-length c = c .before .loop .inv .labels-long
+
+same-length-2 : tie.Need-same-length-2 Inv-loop μ-loop
+same-length-2 c = c .before .loop .inv .predecessors-long
+
+returns : tie.Need-returns Inv-loop μ-loop
+returns c =
+    let left = c .before .loop in
+    left .inv .so-far (tables (left .labels) (left .predecessors) (left .intervals) (left .tree)) (rw (c .loop-test .left) none-left)
+
+pub offer-arcs-spec : {M : Type 1} → statement M
+offer-arcs-spec =
+    tie.close
+    (tie.spec
+    Inv-loop
+    μ-loop
+    loop-holds
+    cast-arc
+    mul-head
+    shared-slice-read-head
+    cast-head
+    element-copy-out-if1
+    offer-arc-requires
+    mul-a
+    element-copy-out-a
+    loop-less
+    loop-again
+    same-length
+    same-length-2
+    returns)

@@ -1,0 +1,52 @@
+// A round of the labelling.
+ghost use Rattle.dijkstra.specs.code.Offering.{tables};
+ghost use Rattle.dijkstra.specs.code.Rounds.{Settleable, Settles};
+use crate::offer::offer_arcs;
+use model::label::UNREACHED;
+use model::limit::MAX_ARCS;
+use model::limit::MAX_JUNCTIONS;
+use tournament::tree::NODES;
+use tournament::tree::enter;
+
+// Settles a junction, and drives its arcs from its label and the interval that is kept beside it.
+pub(crate) fn settle(
+    junction: usize,
+    fences: &[u32],
+    heads: &[u16],
+    lengths: &[u32],
+    holds: &[u16],
+    speeds: &[u8],
+    first: &[u16; MAX_JUNCTIONS],
+    next: &[u16; MAX_ARCS],
+    settled: &mut [bool; MAX_JUNCTIONS],
+    labels: &mut [u32],
+    predecessors: &mut [u16],
+    intervals: &mut [u8; MAX_JUNCTIONS],
+    tree: &mut [u32; NODES],
+)
+    requires { ⌜ Settleable junction (now fences) (now heads) (now lengths) (now holds) (now speeds) (now first) (now next)
+        (tables (now labels) (now predecessors) (now intervals) (now tree)) ⌝ }
+    ensures { λ _. ⌜ Settles junction (now (fences .entry)) (now (heads .entry)) (now (lengths .entry)) (now (holds .entry)) (now (speeds .entry)) (now (first .entry)) (now (next .entry))
+        (now (settled .entry)) (now (settled .exit))
+        (tables (now (labels .entry)) (now (predecessors .entry)) (now (intervals .entry)) (now (tree .entry)))
+        (tables (now (labels .exit)) (now (predecessors .exit)) (now (intervals .exit)) (now (tree .exit))) ⌝ }
+{
+    settled[junction] = true;
+    enter(tree, junction, UNREACHED);
+    offer_arcs(
+        first[junction],
+        labels[junction],
+        intervals[junction],
+        fences,
+        heads,
+        lengths,
+        holds,
+        speeds,
+        next,
+        settled,
+        labels,
+        predecessors,
+        intervals,
+        tree,
+    );
+}

@@ -1,0 +1,22 @@
+-- `put::put_number_unless`: the dash or the number.
+use borrow.Author.Needs.{needs}
+use Rattle.formatting.proofs.Texts.{dash, no-dash}
+use Rattle.formatting.proofs.put.put_number_unless.Statement.{statement}
+use Rattle.formatting.proofs.put.put_number_unless.Tie as tie
+
+returns : tie.Need-returns
+returns c = let called = c .before .before in rw (dash _ _ (called .before .before .if1 .taken)) (called .put-byte .ensures)
+
+returns-2 : tie.Need-returns-2
+returns-2 c = let called = c .before .before in rw (no-dash _ _ (called .before .before .if1 .left)) (called .put-number .ensures)
+
+pub put-number-unless-spec : {M : Type 1} → statement M
+put-number-unless-spec =
+    tie.close
+    (tie.spec
+    (λ c κs. search needs)
+    (λ c κs. search needs)
+    (λ c. search needs)
+    returns
+    (λ c. search needs)
+    returns-2)

@@ -1,0 +1,73 @@
+-- `speeds::short_digits`: of one, two or three digits, by the first byte that is none.
+use borrow.Author.Needs.{needs}
+use Prim.Native.Nat.{ℕ, _+_}
+use mathlib.Core.Path.{_≡_, sym, _∙_}
+use mathlib.Core.Bool.{true}
+use native.Mathlib.Omega.{arith}
+use lib.ListN.{getD}
+use borrow.Author.Tests.{not-false}
+use denote.Ref.{now}
+use Rattle.townfile.specs.Bytes.{digit}
+use Rattle.fields.proofs.Digits.{digit-is}
+use Rattle.number_rows.proofs.ShortSpeeds.{one-digit-read, two-digits-read, three-are-digits, three-digits-read}
+use Rattle.number_rows.proofs.speeds.short_digits.Statement.{statement}
+use Rattle.number_rows.proofs.speeds.short_digits.Tie as tie
+
+returns : tie.Need-returns
+returns c =
+    let start = c .before .before .before .before in
+    one-digit-read _ _ (omega (arith, start .pre .0)) (digit-is _ (omega (arith, start .pre .1 .0)) (start .pre .1 .1))
+
+abbrev digit-at : tie.Start → ℕ → Type 0
+digit-at start k = digit (getD (now (start .args .text)) (start .args .first + k) 0) ≡ true
+
+second : (c : tie.Else1) → digit-at (c .before .before .before .before) 1
+second c = sym (c .before .is-digit .ensures) ∙ not-false _ (c .if1 .left)
+
+third : (c : tie.Else2) → digit-at (c .before .before .before .before .before .before .before) 2
+third c = sym (c .before .is-digit2 .ensures) ∙ not-false _ (c .if2 .left)
+
+returns-2 : tie.Need-returns-2
+returns-2 c =
+    let else1 = c .before .before .before in
+    let start = else1 .before .before .before .before in
+    two-digits-read _ _ (start .pre .0) (start .pre .1 .0) (start .pre .1 .1) (second else1)
+
+three-digits-requires : tie.Need-three-digits-requires
+three-digits-requires c κs =
+    let else2 = c .before .before .before in
+    let else1 = else2 .before .before .before in
+    let start = else1 .before .before .before .before in
+    three-are-digits (now (start .args .text)) (start .args .first) (start .pre .0) (start .pre .1 .0) (start .pre .1 .1) (second else1) (third else2)
+
+returns-4 : tie.Need-returns-4
+returns-4 c =
+    let else2 = c .before .before .before .before .before in
+    let else1 = else2 .before .before .before in
+    let start = else1 .before .before .before .before in
+    three-digits-read _ _ (start .pre .0) (start .pre .1 .0) (start .pre .1 .1) (second else1) (third else2) (omega (arith, c .before .three-digits .ensures))
+
+pub short-digits-spec : {M : Type 1} → statement M
+short-digits-spec =
+    tie.close
+    (tie.spec
+    (λ c. search needs)
+    (λ c. search needs)
+    (λ c κs. search needs)
+    (λ c. search needs)
+    returns
+    (λ c. search needs)
+    (λ c. search needs)
+    (λ c κs. search needs)
+    (λ c. search needs)
+    returns-2
+    (λ c. search needs)
+    (λ c. search needs)
+    (λ c. search needs)
+    (λ c. search needs)
+    (λ c. search needs)
+    (λ c. search needs)
+    three-digits-requires
+    (λ c. search needs)
+    (λ c. search needs)
+    returns-4)

@@ -1,0 +1,59 @@
+-- `speeds::short_speeds`: at each turn, if a word ends here, what the numbers left come to is what all of them come to. Each
+-- number has at most 4 bytes with its space, so there are enough.
+use borrow.Author.Needs.{needs}
+use Prim.Native.Nat.{_+_, _-_, _*_, _≤_}
+use native.Mathlib.Omega.{arith}
+use Rattle.number_rows.specs.code.ShortSpeeds.{ShortField}
+use Rattle.number_rows.proofs.ShortSpeeds.{reached-at, RowLeft, row-goes-on, row-ends}
+use Rattle.number_rows.proofs.NumberLoops.{all-left}
+use Rattle.number_rows.proofs.speeds.short_speeds.Statement.{statement}
+use Rattle.number_rows.proofs.speeds.short_speeds.Tie as tie
+
+abbrev Inv-loop : tie.InvT-loop
+Inv-loop text at count i₀ k₀ i k = RowLeft text at count k i × (k ≤ count) × (i ≤ at + 4 * k)
+
+abbrev μ-loop : tie.MeasureT-loop
+μ-loop text at count i₀ k₀ i k = count - k
+
+loop-holds : tie.Need-loop-holds Inv-loop μ-loop
+loop-holds c = ((λ e. all-left _ _ _ _), omega arith, omega arith)
+
+short-speed-requires : tie.Need-short-speed-requires Inv-loop μ-loop
+short-speed-requires c κs = omega arith
+
+loop-again : tie.Need-loop-again Inv-loop μ-loop
+loop-again c =
+    let read = c .before .before .before in
+    let turn = read .before in
+    let field = reached-at (ShortField _ _) (c .before .next .given .1) (read .short-speed .ensures) in
+    (row-goes-on _ _ _ _ _ (turn .before .loop .inv .0) (omega arith) (turn .loop-test .taken) field, omega arith, omega (arith, field .digits .near))
+
+shared-slice-read-if3 : tie.Need-shared-slice-read-if3 Inv-loop μ-loop
+shared-slice-read-if3 c = omega arith
+
+returns-5 : tie.Need-returns-5 Inv-loop μ-loop
+returns-5 c =
+    let last = c .before .before in
+    row-ends _ _ _ _ _ (last .before .loop .inv .0) (omega arith) (last .loop-test .left) (c .if3 .left)
+
+pub short-speeds-spec : {M : Type 1} → statement M
+short-speeds-spec =
+    tie.close
+    (tie.spec
+    Inv-loop
+    μ-loop
+    (λ c. search needs)
+    (λ c. search needs)
+    (λ c. search needs)
+    (λ c. search needs)
+    loop-holds
+    short-speed-requires
+    (λ c. search needs)
+    (λ c. search needs)
+    (λ c. search needs)
+    (λ c. search needs)
+    (λ c. search needs)
+    loop-again
+    shared-slice-read-if3
+    (λ c. search needs)
+    returns-5)

@@ -1,0 +1,19 @@
+-- What the numbers to the end of a line come to.
+use Prim.Native.Nat.{ℕ, _+_}
+use mathlib.Core.Bool.{Bool, cond}
+use mathlib.Core.List.{List}
+use lib.ListN.{length}
+use Rattle.fields.specs.Fields.{lineFrom, numbersFrom, filledBy}
+use Rattle.number_rows.specs.declared.numbers.Numbers.{Numbers}
+use Rattle.number_rows.specs.declared.numbers.Numbers.the-variants.{Within, Outside, Malformed}
+
+-- Numbers that fill the rest of the line, and whether a test of them holds.
+unfoldable pub numbersRead : (List ℕ → Bool) → ℕ → List ℕ → ℕ → Numbers
+numbersRead test count text at =
+    cond (filledBy count text at) (cond (test (numbersFrom text at)) (Within (at + length (lineFrom text at))) Outside) Malformed
+
+-- A further test of numbers that are within their limits.
+abbrev pub withinIf : Numbers → Bool → Numbers
+withinIf (Within end) fits = cond fits (Within end) Outside
+withinIf Outside fits = Outside
+withinIf Malformed fits = Malformed

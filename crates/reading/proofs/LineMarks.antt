@@ -12,7 +12,7 @@ use Rattle.model.specs.Rules.{Outcome, refused, replied, firstBroken, every, fe
 use Rattle.townfile.specs.Bytes.{space, printable, upTo}
 use Rattle.townfile.specs.Numbers.{decimal, numberKeeps}
 use Rattle.townfile.specs.Lines.{markTN, markFN, markJN, markAR, markCM, markOf, markAlone, numbersOf, numbersKeep, numberField, nameField, nameKeeps}
-use Rattle.townfile.specs.Lines.{formKeeps, valuesKeep, townKeeps, junctionKeeps, arcKeeps, townRead, fencesRead, junctionRead, arcRead, lineRead}
+use Rattle.townfile.specs.Lines.{formKeeps, valuesKeep, townKeeps, junctionKeeps, arcKeeps, afterTown, afterFences, afterJunction, afterArc, lineRead}
 use Rattle.townfile.specs.declared.progress.Progress.{Progress}
 use Rattle.fields.specs.Fields.{lineFrom, wordFrom, fieldAt, fieldsFrom, numbersFrom}
 use Rattle.reading.specs.LineSteps.{Step, step, lineStep}
@@ -48,12 +48,12 @@ comment-asked p true false end = refl
 comment-asked p true true end = refl
 
 name-asked : (p : Progress) (junction : ℕ) (kept : Bool) (end : ℕ) →
-    withName p junction (cond kept (Good end) rest.Malformed) ≡ asked true kept (junctionKeeps p junction) (step (junctionRead p junction) end)
+    withName p junction (cond kept (Good end) rest.Malformed) ≡ asked true kept (junctionKeeps p junction) (step (afterJunction p junction) end)
 name-asked p junction false end = refl
 name-asked p junction true end = go (junctionKeeps p junction)
   where
     reply : Step
-    reply = step (junctionRead p junction) end
+    reply = step (afterJunction p junction) end
 
     go : (keeps : Bool) → cond keeps (replied reply) (refused 26) ≡ cond (not keeps) (refused 26) (replied reply)
     go true = refl
@@ -73,7 +73,7 @@ module _ (p : Progress) (text : List ℕ) (at : ℕ) (behind : BehindMark text a
   number = decimal (numberField whole)
 
   abbrev added : Step
-  added = step (junctionRead p number) (at + length whole)
+  added = step (afterJunction p number) (at + length whole)
 
   -- The number's bytes stand behind the space.
   number-is : eqb (getD (lineFrom text (at + 2)) 0 0) space ≡ true → numberField whole ≡ wordFrom text (at + 2 + 1)
@@ -107,7 +107,7 @@ module _ (p : Progress) (text : List ℕ) (at : ℕ) (behind : BehindMark text a
 
     -- With that number, what a name and an end of the line come to.
     abbrev with-name : Bool → ℕ → Outcome Step
-    with-name kept end = asked true kept (junctionKeeps p junction) (step (junctionRead p junction) end)
+    with-name kept end = asked true kept (junctionKeeps p junction) (step (afterJunction p junction) end)
 
     named : withName p junction (nameAt text next) ≡ with-name (nameKeeps (nameField whole)) (at + length whole)
     unfolding nameKeeps
@@ -171,15 +171,15 @@ module _ (p : Progress) (text : List ℕ) (at : ℕ) where
 
   pub town-line-is : BehindMark text at → markOf line ≡ markTN → townStep p text (at + 2) ≡ lineStep p text at
   unfolding townStep lineStep firstBroken formKeeps valuesKeep lineRead
-  town-line-is behind mark = rw mark (numbers-line behind (eqb (p .turn) 0) 2 townKeeps (townRead p))
+  town-line-is behind mark = rw mark (numbers-line behind (eqb (p .turn) 0) 2 townKeeps (afterTown p))
 
   pub fences-line-is : BehindMark text at → markOf line ≡ markFN → fencesStep p text (at + 2) ≡ lineStep p text at
   unfolding fencesStep lineStep firstBroken formKeeps valuesKeep lineRead
-  fences-line-is behind mark = rw mark (numbers-line behind (eqb (p .turn) 1) (p .intervals) fencesKeep (λ numbers. fencesRead p))
+  fences-line-is behind mark = rw mark (numbers-line behind (eqb (p .turn) 1) (p .intervals) fencesKeep (λ numbers. afterFences p))
 
   pub arc-line-is : BehindMark text at → markOf line ≡ markAR → arcStep p text (at + 2) ≡ lineStep p text at
   unfolding arcStep lineStep firstBroken formKeeps valuesKeep lineRead
-  arc-line-is behind mark = rw mark (numbers-line behind (leb 2 (p .turn)) (3 + p .intervals) (arcKeeps p) (λ numbers. arcRead p))
+  arc-line-is behind mark = rw mark (numbers-line behind (leb 2 (p .turn)) (3 + p .intervals) (arcKeeps p) (λ numbers. afterArc p))
 
   pub comment-line-is : BehindMark text at → markOf line ≡ markCM → commentStep p text (at + 2) ≡ lineStep p text at
   unfolding commentStep lineStep firstBroken formKeeps valuesKeep lineRead

@@ -12,7 +12,7 @@ use Rattle.model.specs.Limits.{maxArcs}
 use Rattle.model.specs.Rules.{refused, replied, every, lengthKeeps, speedKeeps}
 use Rattle.model.proofs.Rules.{true-both}
 use Rattle.townfile.specs.Bytes.{lineFeed, space, upTo}
-use Rattle.townfile.specs.Lines.{townKeeps, junctionKeeps, endsDiffer, arcKeeps, townRead, junctionRead}
+use Rattle.townfile.specs.Lines.{townKeeps, junctionKeeps, endsDiffer, arcKeeps, afterTown, afterJunction}
 use Rattle.townfile.specs.declared.progress.Progress.{Progress}
 use Rattle.fields.specs.Fields.{lineFrom, wordFrom, fieldAt, printableRest, nameAt, numbersFrom, filledBy}
 use Rattle.fields.specs.declared.field.Field.{Field}
@@ -45,9 +45,9 @@ refused-alike p q Malformed other = refl
 -- ---- The town
 
 module _ (p : Progress) (text : List ℕ) (at : ℕ) (turn : p .turn ≡ 0) where
-  town-in-turn : {numbers : Numbers} → numbers ≡ numbersRead townKeeps 2 text at → ofNumbers numbers (townRead p (numbersFrom text at)) ≡ townStep p text at
+  town-in-turn : {numbers : Numbers} → numbers ≡ numbersRead townKeeps 2 text at → ofNumbers numbers (afterTown p (numbersFrom text at)) ≡ townStep p text at
   unfolding townStep
-  town-in-turn e = numbers-in-turn (eqb (p .turn) 0) (townRead p (numbersFrom text at)) (eq-eqb (p .turn) 0 turn) e
+  town-in-turn e = numbers-in-turn (eqb (p .turn) 0) (afterTown p (numbersFrom text at)) (eq-eqb (p .turn) 0 turn) e
 
   none-taken : Left townKeeps text at 2 true townKeeps 0 at
   none-taken = all-left townKeeps text at 2
@@ -67,10 +67,10 @@ module _ (p : Progress) (text : List ℕ) (at : ℕ) (turn : p .turn ≡ 0) wher
       numbers-are = rw (number-goes text at junctions second (field-read text at first), number-goes text second intervals end (field-read text second then))
 
       pub town-numbers : {numbers : Numbers} {keeps : Bool} → keeps ≡ townKeeps (junctions ∷ intervals ∷ []) → numbers ≡ numbersRead (λ all. keeps) 0 text end →
-          ofNumbers numbers (townRead p (junctions ∷ intervals ∷ [])) ≡ townStep p text at
+          ofNumbers numbers (afterTown p (junctions ∷ intervals ∷ [])) ≡ townStep p text at
       town-numbers {numbers} k n =
           let all = left-decides (left-taken first-taken (omega arith) then) (omega arith) k in
-          ap (λ read. ofNumbers numbers (townRead p read)) (sym numbers-are) ∙ town-in-turn (n ∙ all)
+          ap (λ read. ofNumbers numbers (afterTown p read)) (sym numbers-are) ∙ town-in-turn (n ∙ all)
 
 -- ---- The numbers of an arc
 
@@ -163,9 +163,9 @@ module _ (p : Progress) (text : List ℕ) (at : ℕ) where
         pub junction-outside : junctionKeeps p junction ≡ false → refused 26 ≡ junctionStep p text at
         junction-outside k = (let outside : refused 26 ≡ withName p junction (rest.Good end) = rw k in outside ∙ junction-with-name name)
 
-        pub junction-named : junctionKeeps p junction ≡ true → replied (step (junctionRead p junction) end) ≡ junctionStep p text at
+        pub junction-named : junctionKeeps p junction ≡ true → replied (step (afterJunction p junction) end) ≡ junctionStep p text at
         junction-named k =
-            let inside : replied (step (junctionRead p junction) end) ≡ withName p junction (rest.Good end) = rw k in
+            let inside : replied (step (afterJunction p junction) end) ≡ withName p junction (rest.Good end) = rw k in
             inside ∙ junction-with-name name
 
   -- ---- A comment

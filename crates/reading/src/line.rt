@@ -52,7 +52,7 @@ fn of_numbers(numbers: Numbers, next: Progress) -> LineRead
 fn town_line(progress: Progress, text: &[u8], at: usize) -> LineRead
     ensures { λ r. ⌜ outcomeOf r ≡ townStep progress (now (text .entry)) at ⌝ }
 {
-    if progress.turn != 0 {
+    if progress.turn != Progress::TOWN_DUE {
         return LineRead::Fault(Refusal::MarkOutOfTurn);
     }
     let Field::Number {
@@ -69,38 +69,24 @@ fn town_line(progress: Progress, text: &[u8], at: usize) -> LineRead
     else {
         return LineRead::Fault(Refusal::FieldForm);
     };
-    let next = Progress {
-        turn: 1,
-        junctions,
-        intervals,
-        unnamed: progress.unnamed,
-        arcs: progress.arcs,
-    };
     let numbers = numbers_end(text, end, town_keeps(junctions, intervals));
-    of_numbers(numbers, next)
+    of_numbers(numbers, progress.after_town(junctions, intervals))
 }
 
 fn fences_line(progress: Progress, text: &[u8], at: usize) -> LineRead
     ensures { λ r. ⌜ outcomeOf r ≡ fencesStep progress (now (text .entry)) at ⌝ }
 {
-    if progress.turn != 1 {
+    if progress.turn != Progress::FENCES_DUE {
         return LineRead::Fault(Refusal::MarkOutOfTurn);
     }
-    let next = Progress {
-        turn: 2,
-        junctions: progress.junctions,
-        intervals: progress.intervals,
-        unnamed: progress.unnamed,
-        arcs: progress.arcs,
-    };
     let numbers = fences_read(text, at, progress.intervals);
-    of_numbers(numbers, next)
+    of_numbers(numbers, progress.after_fences())
 }
 
 fn junction_line(progress: Progress, text: &[u8], at: usize) -> LineRead
     ensures { λ r. ⌜ outcomeOf r ≡ junctionStep progress (now (text .entry)) at ⌝ }
 {
-    if progress.turn != 2 {
+    if progress.turn != Progress::NAMES_DUE {
         return LineRead::Fault(Refusal::MarkOutOfTurn);
     }
     let Field::Number {
@@ -117,13 +103,7 @@ fn junction_line(progress: Progress, text: &[u8], at: usize) -> LineRead
         return LineRead::Fault(Refusal::FieldValue);
     }
     LineRead::Next {
-        progress: Progress {
-            turn: progress.turn,
-            junctions: progress.junctions,
-            intervals: progress.intervals,
-            unnamed: junction + 1,
-            arcs: progress.arcs,
-        },
+        progress: progress.after_name(junction + 1),
         end,
     }
 }
@@ -160,7 +140,7 @@ fn arc_read(progress: Progress, text: &[u8], at: usize) -> Numbers
 fn arc_line(progress: Progress, text: &[u8], at: usize) -> LineRead
     ensures { λ r. ⌜ outcomeOf r ≡ arcStep progress (now (text .entry)) at ⌝ }
 {
-    if progress.turn < 2 {
+    if progress.turn < Progress::NAMES_DUE {
         return LineRead::Fault(Refusal::MarkOutOfTurn);
     }
     let numbers = arc_read(progress, text, at);
@@ -169,13 +149,7 @@ fn arc_line(progress: Progress, text: &[u8], at: usize) -> LineRead
         return of_numbers(numbers, progress);
     };
     LineRead::Next {
-        progress: Progress {
-            turn: 3,
-            junctions: progress.junctions,
-            intervals: progress.intervals,
-            unnamed: progress.unnamed,
-            arcs: progress.arcs + 1,
-        },
+        progress: progress.after_arc(progress.arcs + 1),
         end,
     }
 }

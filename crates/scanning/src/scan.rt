@@ -62,13 +62,7 @@ pub fn scan(text: &[u8]) -> Scanned
             line: 0,
         };
     }
-    let mut progress = Progress {
-        turn: 0,
-        junctions: 0,
-        intervals: 0,
-        unnamed: 0,
-        arcs: 0,
-    };
+    let mut progress = Progress::start();
     let mut at = 0;
     let mut line = 1u32;
     while at < text.len() {
@@ -86,7 +80,7 @@ pub fn scan(text: &[u8]) -> Scanned
         }
         line += 1;
     }
-    if progress.turn < 2 {
+    if progress.turn < Progress::NAMES_DUE {
         return Scanned::Refused {
             refusal: Refusal::LineMissing,
             line,

@@ -13,7 +13,7 @@ use Rattle.model.specs.NetworkRules.{junctionsKeep}
 use Rattle.model.specs.Rules.{Outcome, refused, replied, every, fencesKeep, lengthKeeps, speedKeeps}
 use Rattle.model.proofs.Rules.{true-both, kept-replies, replies-kept}
 use Rattle.townfile.specs.Grammar.{Bytes, Arc, Each, Line, TN, FN, JN, AR, CM, Reads, ReadsAll, no-lines, reads-line}
-use Rattle.townfile.specs.Lines.{markOf, byMark, known, inTurn, formKeeps, junctionKeeps, endsDiffer, valuesKeep, lineRules, townRead, fencesRead, junctionRead, arcRead, lineRead, lineAnswer}
+use Rattle.townfile.specs.Lines.{markOf, byMark, known, inTurn, formKeeps, junctionKeeps, endsDiffer, valuesKeep, lineRules, afterTown, afterFences, afterJunction, afterArc, lineRead, lineAnswer}
 use Rattle.townfile.specs.LineFaults.{CountsMatch}
 use Rattle.townfile.specs.FirstFault.{refusedAt, accepted, atEnd, onward, linesFrom}
 use Rattle.townfile.specs.declared.progress.Progress.{Progress}
@@ -41,10 +41,10 @@ arc-limits p arc e =
 
 -- The progress after a line.
 abbrev pub afterSaid : Progress → Line → Progress
-afterSaid p (TN junctions intervals) = townRead p (junctions ∷ intervals ∷ [])
-afterSaid p (FN fences) = fencesRead p
-afterSaid p (JN named) = junctionRead p (named .number)
-afterSaid p (AR arc) = arcRead p
+afterSaid p (TN junctions intervals) = afterTown p (junctions ∷ intervals ∷ [])
+afterSaid p (FN fences) = afterFences p
+afterSaid p (JN named) = afterJunction p (named .number)
+afterSaid p (AR arc) = afterArc p
 afterSaid p CM = p
 
 pub record Allowed (p : Progress) (says : Line) : Type 0 where

@@ -13,7 +13,7 @@ use Rattle.model.specs.NetworkRules.{junctionsKeep}
 use Rattle.model.specs.Rules.{fencesKeep}
 use Rattle.model.proofs.Rules.{true-both, both-true}
 use Rattle.townfile.specs.Grammar.{Named, Arc, Town, Each, Line, TN, FN, JN, AR, CM, withoutComments, inOrder}
-use Rattle.townfile.specs.Lines.{townRead, fencesRead, junctionRead, arcRead}
+use Rattle.townfile.specs.Lines.{afterTown, afterFences, afterJunction, afterArc}
 use Rattle.townfile.specs.FirstFault.{start}
 use Rattle.townfile.specs.declared.progress.Progress.{Progress}
 use Rattle.townfile.proofs.Kept.{ArcTested, NamesFrom, PartsKept}
@@ -24,19 +24,19 @@ use Rattle.townfile.proofs.Order.{arc-limits, Allowed, afterAll, Legal}
 pub commented-legal : (p : Progress) (say : List Line) → Legal p (withoutComments say) → Legal p say
 unfolding Legal withoutComments
 commented-legal p [] legal = legal
-commented-legal p (TN junctions intervals ∷ say) legal = (legal .0, commented-legal (townRead p (junctions ∷ intervals ∷ [])) say (legal .1))
-commented-legal p (FN fences ∷ say) legal = (legal .0, commented-legal (fencesRead p) say (legal .1))
-commented-legal p (JN named ∷ say) legal = (legal .0, commented-legal (junctionRead p (named .number)) say (legal .1))
-commented-legal p (AR arc ∷ say) legal = (legal .0, commented-legal (arcRead p) say (legal .1))
+commented-legal p (TN junctions intervals ∷ say) legal = (legal .0, commented-legal (afterTown p (junctions ∷ intervals ∷ [])) say (legal .1))
+commented-legal p (FN fences ∷ say) legal = (legal .0, commented-legal (afterFences p) say (legal .1))
+commented-legal p (JN named ∷ say) legal = (legal .0, commented-legal (afterJunction p (named .number)) say (legal .1))
+commented-legal p (AR arc ∷ say) legal = (legal .0, commented-legal (afterArc p) say (legal .1))
 commented-legal p (CM ∷ say) legal = (record { in-turn = refl; counts-match = tt; keeps = refl }, commented-legal p say legal)
 
 pub after-commented : (p : Progress) (say : List Line) → afterAll p say ≡ afterAll p (withoutComments say)
 unfolding afterAll withoutComments
 after-commented p [] = refl
-after-commented p (TN junctions intervals ∷ say) = after-commented (townRead p (junctions ∷ intervals ∷ [])) say
-after-commented p (FN fences ∷ say) = after-commented (fencesRead p) say
-after-commented p (JN named ∷ say) = after-commented (junctionRead p (named .number)) say
-after-commented p (AR arc ∷ say) = after-commented (arcRead p) say
+after-commented p (TN junctions intervals ∷ say) = after-commented (afterTown p (junctions ∷ intervals ∷ [])) say
+after-commented p (FN fences ∷ say) = after-commented (afterFences p) say
+after-commented p (JN named ∷ say) = after-commented (afterJunction p (named .number)) say
+after-commented p (AR arc ∷ say) = after-commented (afterArc p) say
 after-commented p (CM ∷ say) = after-commented p say
 
 -- ---- What a line that is allowed keeps
@@ -82,7 +82,7 @@ record FencesLeft (p : Progress) (lines : List Line) : Type 0 where
   order : lines ≡ FN fences ∷ rest
   count : length fences ≡ p .intervals
   keep : fencesKeep fences ≡ true
-  left : NamesLeft (fencesRead p) rest
+  left : NamesLeft (afterFences p) rest
 
 record TownLeft (p : Progress) (lines : List Line) : Type 0 where
   junctions : ℕ
@@ -90,7 +90,7 @@ record TownLeft (p : Progress) (lines : List Line) : Type 0 where
   rest : List Line
   order : lines ≡ TN junctions intervals ∷ rest
   keep : (junctionsKeep junctions && ltb 0 intervals && leb intervals maxIntervals) ≡ true
-  left : FencesLeft (townRead p (junctions ∷ intervals ∷ [])) rest
+  left : FencesLeft (afterTown p (junctions ∷ intervals ∷ [])) rest
 
 with-arc : (p : Progress) (arc : Arc) (lines : List Line) → Allowed p (AR arc) → (p .arcs < maxArcs → ArcsLeft (p .junctions) (p .intervals) (p .arcs + 1) lines) →
     ArcsLeft (p .junctions) (p .intervals) (p .arcs) (AR arc ∷ lines)
@@ -106,7 +106,7 @@ arcs-left p [] turn few legal = record { arcs = []; order = refl; kept = tt; few
 arcs-left p (TN junctions intervals ∷ say) turn few legal = absurd (omega (arith, same-turn p 3 0 turn (legal .0 .in-turn)))
 arcs-left p (FN fences ∷ say) turn few legal = absurd (omega (arith, same-turn p 3 1 turn (legal .0 .in-turn)))
 arcs-left p (JN named ∷ say) turn few legal = absurd (omega (arith, same-turn p 3 2 turn (legal .0 .in-turn)))
-arcs-left p (AR arc ∷ say) turn few legal = with-arc p arc (withoutComments say) (legal .0) (λ h. arcs-left (arcRead p) say refl (omega arith) (legal .1))
+arcs-left p (AR arc ∷ say) turn few legal = with-arc p arc (withoutComments say) (legal .0) (λ h. arcs-left (afterArc p) say refl (omega arith) (legal .1))
 arcs-left p (CM ∷ say) turn few legal = arcs-left p say turn few (legal .1)
 
 names-left : (p : Progress) (say : List Line) → p .turn ≡ 2 → p .arcs ≤ maxArcs → Legal p say → NamesLeft p (withoutComments say)
@@ -115,14 +115,14 @@ names-left p [] turn few legal = record { names = []; rest = []; order = refl; k
 names-left p (TN junctions intervals ∷ say) turn few legal = absurd (omega (arith, same-turn p 2 0 turn (legal .0 .in-turn)))
 names-left p (FN fences ∷ say) turn few legal = absurd (omega (arith, same-turn p 2 1 turn (legal .0 .in-turn)))
 names-left p (JN named ∷ say) turn few legal =
-    let later = names-left (junctionRead p (named .number)) say turn few (legal .1) in
+    let later = names-left (afterJunction p (named .number)) say turn few (legal .1) in
     record { names = named ∷ later .names; rest = later .rest; order = rw (later .order); kept = (name-allowed p named (legal .0), later .kept); left = later .left }
 names-left p (AR arc ∷ say) turn few legal = record {
   names = [];
   rest = AR arc ∷ withoutComments say;
   order = refl;
   kept = tt;
-  left = with-arc p arc (withoutComments say) (legal .0) (λ h. arcs-left (arcRead p) say refl (omega arith) (legal .1));
+  left = with-arc p arc (withoutComments say) (legal .0) (λ h. arcs-left (afterArc p) say refl (omega arith) (legal .1));
 }
 names-left p (CM ∷ say) turn few legal = names-left p say turn few (legal .1)
 
@@ -137,7 +137,7 @@ fences-left p (FN fences ∷ say) turn few legal =
       order = refl;
       count = legal .0 .counts-match;
       keep = legal .0 .keeps;
-      left = names-left (fencesRead p) say refl few (legal .1);
+      left = names-left (afterFences p) say refl few (legal .1);
     }
 fences-left p (JN named ∷ say) turn few legal = absurd (omega (arith, same-turn p 1 2 turn (legal .0 .in-turn)))
 fences-left p (AR arc ∷ say) turn few legal = absurd (omega (arith, leb-true 2 (p .turn) (legal .0 .in-turn)))
@@ -147,7 +147,7 @@ town-left : (p : Progress) (say : List Line) → p .turn ≡ 0 → p .arcs ≤ m
 unfolding Legal withoutComments
 town-left p [] turn few legal = absurd (omega arith)
 town-left p (TN junctions intervals ∷ say) turn few legal =
-    let left = fences-left (townRead p (junctions ∷ intervals ∷ [])) say refl few (legal .1) in
+    let left = fences-left (afterTown p (junctions ∷ intervals ∷ [])) say refl few (legal .1) in
     record { junctions = junctions; intervals = intervals; rest = withoutComments say; order = refl; keep = legal .0 .keeps; left = left }
 town-left p (FN fences ∷ say) turn few legal = absurd (omega (arith, same-turn p 0 1 turn (legal .0 .in-turn)))
 town-left p (JN named ∷ say) turn few legal = absurd (omega (arith, same-turn p 0 2 turn (legal .0 .in-turn)))
@@ -181,7 +181,7 @@ legal-town say legal = left-town (withoutComments say) (town-left start say refl
 arcs-legal : (p : Progress) (arcs : List Arc) → 2 ≤ p .turn → Each (ArcTested (p .junctions) (p .intervals)) arcs → p .arcs + length arcs ≤ maxArcs → Legal p (map AR arcs)
 unfolding Legal Each
 arcs-legal p [] turn kept few = turn
-arcs-legal p (arc ∷ arcs) turn kept few = (allowed-arc p arc turn (kept .0) (omega arith), arcs-legal (arcRead p) arcs (omega arith) (kept .1) (omega arith))
+arcs-legal p (arc ∷ arcs) turn kept few = (allowed-arc p arc turn (kept .0) (omega arith), arcs-legal (afterArc p) arcs (omega arith) (kept .1) (omega arith))
 
 names-legal : (p : Progress) (names : List Named) (arcs : List Arc) → p .turn ≡ 2 → NamesFrom (p .junctions) (p .unnamed) names →
     Each (ArcTested (p .junctions) (p .intervals)) arcs → p .arcs + length arcs ≤ maxArcs → Legal p (map JN names ++ map AR arcs)
@@ -193,14 +193,14 @@ names-legal p (name ∷ names) arcs turn named kept few = (
     counts-match = tt;
     keeps = both-true (lt-ltb (name .number) (p .junctions) (named .0 .0)) (le-leb (p .unnamed) (name .number) (named .0 .1));
   },
-  names-legal (junctionRead p (name .number)) names arcs turn (named .1) kept few,
+  names-legal (afterJunction p (name .number)) names arcs turn (named .1) kept few,
 )
 
 pub town-legal : (T : Town) → PartsKept T → Legal start (inOrder T)
 unfolding Legal
 town-legal T parts =
     let count = true-both (ltb 0 (length (T .fences))) (leb (length (T .fences)) maxIntervals) (parts .count-keeps) in
-    let read = fencesRead (townRead start (T .junctions ∷ length (T .fences) ∷ [])) in (
+    let read = afterFences (afterTown start (T .junctions ∷ length (T .fences) ∷ [])) in (
       record { in-turn = refl; counts-match = tt; keeps = both-true (both-true (parts .junctions-keep) (count .0)) (count .1) },
       (
         record { in-turn = refl; counts-match = refl; keeps = parts .fences-keep },
@@ -220,16 +220,16 @@ arcs-counted : (p : Progress) (arcs : List Arc) → Counted (p .junctions) (p .i
 unfolding afterAll
 arcs-counted p [] = record { junctions-counted = refl; intervals-counted = refl; arcs-counted = omega arith }
 arcs-counted p (arc ∷ arcs) =
-    let later = arcs-counted (arcRead p) arcs in
+    let later = arcs-counted (afterArc p) arcs in
     record { junctions-counted = later .junctions-counted; intervals-counted = later .intervals-counted; arcs-counted = omega (arith, later .arcs-counted) }
 
 names-counted : (p : Progress) (names : List Named) (arcs : List Arc) → Counted (p .junctions) (p .intervals) (p .arcs + length arcs) (afterAll p (map JN names ++ map AR arcs))
 unfolding afterAll
 names-counted p [] arcs = arcs-counted p arcs
-names-counted p (named ∷ names) arcs = names-counted (junctionRead p (named .number)) names arcs
+names-counted p (named ∷ names) arcs = names-counted (afterJunction p (named .number)) names arcs
 
 pub town-counted : (T : Town) → Counted (T .junctions) (length (T .fences)) (length (T .arcs)) (afterAll start (inOrder T))
 unfolding afterAll
 town-counted T =
-    let later = names-counted (fencesRead (townRead start (T .junctions ∷ length (T .fences) ∷ []))) (T .names) (T .arcs) in
+    let later = names-counted (afterFences (afterTown start (T .junctions ∷ length (T .fences) ∷ []))) (T .names) (T .arcs) in
     record { junctions-counted = later .junctions-counted; intervals-counted = later .intervals-counted; arcs-counted = omega (arith, later .arcs-counted) }

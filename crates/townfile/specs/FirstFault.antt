@@ -7,7 +7,7 @@ use lib.Dec.{ltb, eqb}
 use lib.ListN.{length}
 use Rattle.model.specs.Rules.{Outcome, refused, replied}
 use Rattle.townfile.specs.Bytes.{lineFeed, pieces}
-use Rattle.townfile.specs.Lines.{lineAnswer}
+use Rattle.townfile.specs.Lines.{townDue, namesDue, lineAnswer}
 use Rattle.townfile.specs.declared.progress.Progress.{Progress}
 
 -- What reading a text comes to: a refusal's number and line, or the reply.
@@ -16,11 +16,11 @@ pub data Reading (Reply : Type 0) : Type 0 where
   accepted : Reply → Reading Reply
 
 abbrev pub start : Progress
-start = record { turn = 0; junctions = 0; intervals = 0; unnamed = 0; arcs = 0 }
+start = record { turn = townDue; junctions = 0; intervals = 0; unnamed = 0; arcs = 0 }
 
 -- After the last line: its number is one more than the line count.
 abbrev pub atEnd : Progress → ℕ → Reading Progress
-atEnd p number = cond (ltb (p .turn) 2) (refusedAt 27 number) (accepted p)
+atEnd p number = cond (ltb (p .turn) namesDue) (refusedAt 27 number) (accepted p)
 
 abbrev pub onward : Outcome Progress → ℕ → (Progress → Reading Progress) → Reading Progress
 onward (refused fault) number rest = refusedAt fault number

@@ -50,8 +50,21 @@ byMark mark town fences junction arc comment other =
 abbrev pub known : ℕ → Bool
 known mark = byMark mark true true true true true false
 
+-- The turns in their order, by the mark that is due: `TN`; `FN`; `JN` or `AR`; `AR` alone.
+abbrev pub townDue : ℕ
+townDue = 0
+
+abbrev pub fencesDue : ℕ
+fencesDue = 1
+
+abbrev pub namesDue : ℕ
+namesDue = 2
+
+abbrev pub arcsDue : ℕ
+arcsDue = 3
+
 abbrev pub inTurn : ℕ → ℕ → Bool
-inTurn turn mark = byMark mark (eqb turn 0) (eqb turn 1) (eqb turn 2) (leb 2 turn) true false
+inTurn turn mark = byMark mark (eqb turn townDue) (eqb turn fencesDue) (eqb turn namesDue) (leb namesDue turn) true false
 
 -- ---- The form
 
@@ -132,20 +145,24 @@ lineRules p line =
     ∷ []
 
 -- The progress after a line that keeps the rules.
-abbrev pub townRead : Progress → List ℕ → Progress
-townRead p numbers = record { turn = 1; junctions = getD numbers 0 0; intervals = getD numbers 1 0; unnamed = p .unnamed; arcs = p .arcs }
+abbrev pub afterTown : Progress → List ℕ → Progress
+afterTown p numbers = record { turn = fencesDue; junctions = getD numbers 0 0; intervals = getD numbers 1 0; unnamed = p .unnamed; arcs = p .arcs }
 
-abbrev pub fencesRead : Progress → Progress
-fencesRead p = record { turn = 2; junctions = p .junctions; intervals = p .intervals; unnamed = p .unnamed; arcs = p .arcs }
+-- Behind `TN` a line changes only the turn, the names and the arcs.
+abbrev pub behindTown : Progress → (turn unnamed arcs : ℕ) → Progress
+behindTown p turn unnamed arcs = record { turn = turn; junctions = p .junctions; intervals = p .intervals; unnamed = unnamed; arcs = arcs }
 
-abbrev pub junctionRead : Progress → ℕ → Progress
-junctionRead p junction = record { turn = p .turn; junctions = p .junctions; intervals = p .intervals; unnamed = junction + 1; arcs = p .arcs }
+abbrev pub afterFences : Progress → Progress
+afterFences p = behindTown p namesDue (p .unnamed) (p .arcs)
 
-abbrev pub arcRead : Progress → Progress
-arcRead p = record { turn = 3; junctions = p .junctions; intervals = p .intervals; unnamed = p .unnamed; arcs = p .arcs + 1 }
+abbrev pub afterJunction : Progress → ℕ → Progress
+afterJunction p junction = behindTown p (p .turn) (junction + 1) (p .arcs)
+
+abbrev pub afterArc : Progress → Progress
+afterArc p = behindTown p arcsDue (p .unnamed) (p .arcs + 1)
 
 unfoldable pub lineRead : Progress → List ℕ → Progress
-lineRead p line = byMark (markOf line) (townRead p (numbersOf line)) (fencesRead p) (junctionRead p (decimal (numberField line))) (arcRead p) p p
+lineRead p line = byMark (markOf line) (afterTown p (numbersOf line)) (afterFences p) (afterJunction p (decimal (numberField line))) (afterArc p) p p
 
 unfoldable pub lineAnswer : Progress → List ℕ → Outcome Progress
 lineAnswer p line = firstBroken (lineRules p line) (lineRead p line)

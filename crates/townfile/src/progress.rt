@@ -1,10 +1,74 @@
 // What the lines read so far have settled for those that follow.
+ghost use mathlib.Core.Path.{_≡_};
+ghost use mathlib.Core.List.{[], _∷_};
+ghost use Rattle.townfile.specs.Lines.{arcsDue, afterTown, behindTown, afterFences};
+ghost use Rattle.townfile.specs.FirstFault.{start as atStart};
+
 pub struct Progress {
-    // Where in the order of lines it stands: 0 before TN, 1 after it, 2 after FN, 3 after the first AR.
+    // Which mark is due.
     pub turn: u32,
     pub junctions: u32,
     pub intervals: u32,
     // The least junction that a JN may still name.
     pub unnamed: u32,
     pub arcs: u32,
+}
+
+impl Progress {
+    // The turns in their order: TN is due.
+    pub const TOWN_DUE: u32 = 0;
+
+    // FN is due.
+    pub const FENCES_DUE: u32 = 1;
+
+    // A JN may follow, or an AR.
+    pub const NAMES_DUE: u32 = 2;
+
+    // An AR may follow.
+    pub const ARCS_DUE: u32 = 3;
+
+    pub fn start() -> Self
+        ensures { λ r. ⌜ r ≡ atStart ⌝ }
+    {
+        Self {
+            turn: Self::TOWN_DUE,
+            junctions: 0,
+            intervals: 0,
+            unnamed: 0,
+            arcs: 0,
+        }
+    }
+
+    pub fn after_town(mut self, junctions: u32, intervals: u32) -> Self
+        ensures { λ r. ⌜ r ≡ afterTown self (junctions ∷ intervals ∷ []) ⌝ }
+    {
+        self.turn = Self::FENCES_DUE;
+        self.junctions = junctions;
+        self.intervals = intervals;
+        self
+    }
+
+    pub fn after_fences(mut self) -> Self
+        ensures { λ r. ⌜ r ≡ afterFences self ⌝ }
+    {
+        self.turn = Self::NAMES_DUE;
+        self
+    }
+
+    // Behind a JN line, with the least junction that may still be named.
+    pub fn after_name(mut self, unnamed: u32) -> Self
+        ensures { λ r. ⌜ r ≡ behindTown self (self .turn) unnamed (self .arcs) ⌝ }
+    {
+        self.unnamed = unnamed;
+        self
+    }
+
+    // Behind an AR line, with the count of arcs.
+    pub fn after_arc(mut self, arcs: u32) -> Self
+        ensures { λ r. ⌜ r ≡ behindTown self arcsDue (self .unnamed) arcs ⌝ }
+    {
+        self.turn = Self::ARCS_DUE;
+        self.arcs = arcs;
+        self
+    }
 }

@@ -6,7 +6,7 @@ use lib.Dec.{leb, ltb, eqb}
 use lib.ListN.{length}
 use Rattle.model.specs.Limits.{maxArcs}
 use Rattle.model.specs.Rules.{Outcome, refused, replied, fencesKeep, lengthKeeps}
-use Rattle.townfile.specs.Lines.{townKeeps, junctionKeeps, endsDiffer, arcKeeps, townRead, fencesRead, junctionRead, arcRead}
+use Rattle.townfile.specs.Lines.{townDue, fencesDue, namesDue, townKeeps, junctionKeeps, endsDiffer, arcKeeps, afterTown, afterFences, afterJunction, afterArc}
 use Rattle.townfile.specs.declared.progress.Progress.{Progress}
 use Rattle.fields.specs.Fields.{wordFrom, fieldAt, printableRest, nameAt, numbersFrom}
 use Rattle.fields.specs.declared.field.Field.{Field}
@@ -27,16 +27,16 @@ abbrev pub inTurnOnly : Bool → Outcome Step → Outcome Step
 inTurnOnly turn outcome = cond turn outcome (refused 24)
 
 unfoldable pub townStep : Progress → List ℕ → ℕ → Outcome Step
-townStep p text at = inTurnOnly (eqb (p .turn) 0) (ofNumbers (numbersRead townKeeps 2 text at) (townRead p (numbersFrom text at)))
+townStep p text at = inTurnOnly (eqb (p .turn) townDue) (ofNumbers (numbersRead townKeeps 2 text at) (afterTown p (numbersFrom text at)))
 
 unfoldable pub fencesStep : Progress → List ℕ → ℕ → Outcome Step
-fencesStep p text at = inTurnOnly (eqb (p .turn) 1) (ofNumbers (numbersRead fencesKeep (p .intervals) text at) (fencesRead p))
+fencesStep p text at = inTurnOnly (eqb (p .turn) fencesDue) (ofNumbers (numbersRead fencesKeep (p .intervals) text at) (afterFences p))
 
 unfoldable pub arcStep : Progress → List ℕ → ℕ → Outcome Step
-arcStep p text at = inTurnOnly (leb 2 (p .turn)) (ofNumbers (numbersRead (arcKeeps p) (3 + p .intervals) text at) (arcRead p))
+arcStep p text at = inTurnOnly (leb namesDue (p .turn)) (ofNumbers (numbersRead (arcKeeps p) (3 + p .intervals) text at) (afterArc p))
 
 abbrev pub withName : Progress → ℕ → Rest → Outcome Step
-withName p junction (rest.Good end) = cond (junctionKeeps p junction) (replied (step (junctionRead p junction) end)) (refused 26)
+withName p junction (rest.Good end) = cond (junctionKeeps p junction) (replied (step (afterJunction p junction) end)) (refused 26)
 withName p junction rest.Malformed = refused 25
 
 abbrev pub withJunction : Progress → List ℕ → Field → Outcome Step
@@ -44,7 +44,7 @@ withJunction p text (field.Number junction next) = withName p junction (nameAt t
 withJunction p text field.Malformed = refused 25
 
 unfoldable pub junctionStep : Progress → List ℕ → ℕ → Outcome Step
-junctionStep p text at = inTurnOnly (eqb (p .turn) 2) (withJunction p text (fieldAt text at))
+junctionStep p text at = inTurnOnly (eqb (p .turn) namesDue) (withJunction p text (fieldAt text at))
 
 abbrev pub ofComment : Progress → Rest → Outcome Step
 ofComment p (rest.Good end) = replied (step p end)

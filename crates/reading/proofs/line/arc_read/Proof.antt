@@ -9,55 +9,59 @@ use Rattle.reading.proofs.Steps.{arc-no-tail, arc-no-head, arc-no-metre
 use Rattle.reading.proofs.line.arc_read.Statement.{statement}
 use Rattle.reading.proofs.line.arc_read.Tie as tie
 
-abbrev start₁ : tie.After-known-told → tie.Start
-start₁ c = c .before .before .before .before .before
+abbrev begun : tie.After-tail → tie.Start
+begun c = search
 
-abbrev start₂ : tie.After-known-told2 → tie.Start
-start₂ c = start₁ (c .before .before .before .before)
+abbrev tail : tie.After-head → tie.After-tail
+tail c = search
 
-abbrev start₃ : tie.After-known-told3 → tie.Start
-start₃ c = start₂ (c .before .before .before .before)
+abbrev head : tie.After-metres → tie.After-head
+head c = search
 
 -- where the next field stands
-abbrev second : tie.After-known-told → ℕ
-second c = c .before .tail .given .0 .1 .0
+abbrev second : tie.After-tail → ℕ
+second c = c .tail .given .0 .1 .0
 
-abbrev third : tie.After-known-told2 → ℕ
-third c = c .before .head .given .0 .1 .0
+abbrev third : tie.After-head → ℕ
+third c = c .head .given .0 .1 .0
 
-tail-read : (c : tie.After-known-told) → fieldAt (now (start₁ c .args .text)) (start₁ c .args .at) ≡ Number (c .before .tail .given .0 .0) (second c)
-tail-read c = sym (c .before .before .before .read-field .ensures) ∙ c .before .tail .given .1
+tail-read : (c : tie.After-tail) → fieldAt (now (begun c .args .text)) (begun c .args .at) ≡ Number (c .tail .given .0 .0) (second c)
+tail-read c = let called : tie.After-read-field = search in sym (called .read-field .ensures) ∙ c .tail .given .1
 
-head-read : (c : tie.After-known-told2) →
-    fieldAt (now (start₂ c .args .text)) (second (c .before .before .before .before)) ≡ Number (c .before .head .given .0 .0) (third c)
-head-read c = sym (c .before .before .before .read-field2 .ensures) ∙ c .before .head .given .1
+head-read : (c : tie.After-head) → fieldAt (now (begun (tail c) .args .text)) (second (tail c)) ≡ Number (c .head .given .0 .0) (third c)
+head-read c = let called : tie.After-read-field2 = search in sym (called .read-field2 .ensures) ∙ c .head .given .1
 
-metres-read : (c : tie.After-known-told3) →
-    fieldAt (now (start₃ c .args .text)) (third (c .before .before .before .before)) ≡ Number (c .before .metres .given .0 .0) (c .before .metres .given .0 .1 .0)
-metres-read c = sym (c .before .before .before .read-field3 .ensures) ∙ c .before .metres .given .1
+metres-read : (c : tie.After-metres) →
+    fieldAt (now (begun (tail (head c)) .args .text)) (third (head c)) ≡ Number (c .metres .given .0 .0) (c .metres .given .0 .1 .0)
+metres-read c = let called : tie.After-read-field3 = search in sym (called .read-field3 .ensures) ∙ c .metres .given .1
 
 returns : tie.Need-returns
-returns c = arc-no-tail (c .before .before .before .before .args .progress) _ _ (sym (c .before .before .read-field .ensures) ∙ c .enum-told .given .1)
+returns c =
+    let start : tie.Start = search in
+    let called : tie.After-read-field = search in
+    arc-no-tail (start .args .progress) _ _ (sym (called .read-field .ensures) ∙ c .enum-told .given .1)
 
 returns-2 : tie.Need-returns-2
 returns-2 c =
-    let tail = c .before .before .before in
-    let told = sym (c .before .before .read-field2 .ensures) ∙ c .enum-told2 .given .1 in
-    arc-no-head (start₁ tail .args .progress) _ _ (tail-read tail) told
+    let t : tie.After-tail = search in
+    let called : tie.After-read-field2 = search in
+    arc-no-head (begun t .args .progress) _ _ (tail-read t) (sym (called .read-field2 .ensures) ∙ c .enum-told2 .given .1)
 
 returns-3 : tie.Need-returns-3
 returns-3 c =
-    let head = c .before .before .before in
-    let told = sym (c .before .before .read-field3 .ensures) ∙ c .enum-told3 .given .1 in
-    arc-no-metres (start₂ head .args .progress) _ _ (tail-read (head .before .before .before .before)) (head-read head) told
+    let h : tie.After-head = search in
+    let called : tie.After-read-field3 = search in
+    arc-no-metres (begun (tail h) .args .progress) _ _ (tail-read (tail h)) (head-read h) (sym (called .read-field3 .ensures) ∙ c .enum-told3 .given .1)
 
 returns-4 : tie.Need-returns-4
 returns-4 c =
-    let metres = c .before .before .before in
-    let head = metres .before .before .before .before in
-    let tail = head .before .before .before .before in
-    let speeds = c .before .before .speeds-read .ensures in
-    arc-numbers (start₃ metres .args .progress) _ _ (tail-read tail) (head-read head) (metres-read metres) speeds (c .before .arc-fits .ensures) (c .within-if .ensures)
+    let m : tie.After-metres = search in
+    let h = head m in
+    let t = tail h in
+    let speeds : tie.After-speeds-read = search in
+    let fits : tie.After-arc-fits = search in
+    arc-numbers (begun t .args .progress) _ _ (tail-read t) (head-read h) (metres-read m)
+    (speeds .speeds-read .ensures) (fits .arc-fits .ensures) (c .within-if .ensures)
 
 pub arc-read-spec : {M : Type 1} → statement M
 arc-read-spec =

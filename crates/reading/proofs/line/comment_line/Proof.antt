@@ -11,19 +11,23 @@ returns c = comment-ends _ _ _ (line-ends _ _ (c .if1 .taken))
 
 returns-2 : tie.Need-returns-2
 returns-2 c =
-    let gap = c .before .before .before in
-    comment-behind-gap _ _ _ (gap .before .before .if1 .left) (gap .match .keys2) (sym (c .enum-told .given .1) ∙ c .before .before .printable .ensures)
+    let more : tie.Else1 = search in
+    let gap : tie.At-match-keys2 = search in
+    let called : tie.After-printable = search in
+    comment-behind-gap _ _ _ (more .if1 .left) (gap .match .keys2) (sym (c .enum-told .given .1) ∙ called .printable .ensures)
 
 returns-3 : tie.Need-returns-3
-returns-3 c = comment-ends _ _ _ (line-feed-ends _ _ (c .before .before .if1 .left) (c .match .keys1))
+returns-3 c = let more : tie.Else1 = search in comment-ends _ _ _ (line-feed-ends _ _ (more .if1 .left) (c .match .keys1))
 
 returns-4 : tie.Need-returns-4
 returns-4 c =
-    let gap = c .before .before .before .before in
-    comment-behind-gap _ _ _ (gap .before .before .if1 .left) (gap .match .keys2) (sym (c .before .end .given .1) ∙ c .before .before .before .printable .ensures)
+    let more : tie.Else1 = search in
+    let gap : tie.At-match-keys2 = search in
+    let called : tie.After-printable = search in
+    comment-behind-gap _ _ _ (more .if1 .left) (gap .match .keys2) (sym (c .before .end .given .1) ∙ called .printable .ensures)
 
 returns-5 : tie.Need-returns-5
-returns-5 c = comment-attached _ _ _ (c .before .before .if1 .left) (c .match .rest .0 .1) (c .match .rest .1)
+returns-5 c = let more : tie.Else1 = search in comment-attached _ _ _ (more .if1 .left) (c .match .rest .0 .1) (c .match .rest .1)
 
 pub comment-line-spec : {M : Type 1} → statement M
 comment-line-spec =

@@ -6,9 +6,8 @@ use mathlib.Core.Bool.{true}
 use native.Mathlib.Omega.{arith}
 use borrow.Author.Tests.{ne-eqb, not-true, not-false}
 use denote.Ref.{now}
-use Rattle.townfile.specs.Lines.{junctionKeeps}
-use Rattle.fields.specs.Fields.{fieldAt}
-use Rattle.fields.specs.Fields.{nameAt}
+use Rattle.townfile.specs.Lines.{namesDue, junctionKeeps}
+use Rattle.fields.specs.Fields.{fieldAt, nameAt}
 use Rattle.fields.specs.declared.field.Field.the-variants.{Number}
 use Rattle.fields.specs.declared.field.Rest.the-variants.{Good}
 use Rattle.reading.specs.code.Kinds.{junctionStep}
@@ -16,61 +15,68 @@ use Rattle.reading.proofs.Steps.{junction-in-turn, junction-with-name, 
 use Rattle.reading.proofs.line.junction_line.Statement.{statement}
 use Rattle.reading.proofs.line.junction_line.Tie as tie
 
-abbrev start : tie.After-known-told → tie.Start
-start c = c .before .before .before .before .before .before .before
+abbrev begun : tie.After-junction → tie.Start
+begun c = search
 
 -- its number, and where its name stands
-abbrev junction : tie.After-known-told → ℕ
-junction c = c .before .junction .given .0 .0
+abbrev junction : tie.After-junction → ℕ
+junction c = c .junction .given .0 .0
 
-abbrev next : tie.After-known-told → ℕ
-next c = c .before .junction .given .0 .1 .0
+abbrev next : tie.After-junction → ℕ
+next c = c .junction .given .0 .1 .0
 
-number-read : (c : tie.After-known-told) → Number (junction c) (next c) ≡ fieldAt (now (start c .args .text)) (start c .args .at)
-number-read c = sym (c .before .junction .given .1) ∙ c .before .before .before .read-field .ensures
+number-read : (c : tie.After-junction) → Number (junction c) (next c) ≡ fieldAt (now (begun c .args .text)) (begun c .args .at)
+number-read c = let called : tie.After-read-field = search in sym (c .junction .given .1) ∙ called .read-field .ensures
 
-name-read : (c : tie.After-known-told2) → let number = c .before .before .before .before in
-    Good (c .before .end .given .0 .0) ≡ nameAt (now (start number .args .text)) (next number)
-name-read c = sym (c .before .end .given .1) ∙ c .before .before .before .name-at .ensures
+abbrev number : tie.After-end → tie.After-junction
+number c = search
+
+name-read : (c : tie.After-end) → Good (c .end .given .0 .0) ≡ nameAt (now (begun (number c) .args .text)) (next (number c))
+name-read c = let called : tie.After-name-at = search in sym (c .end .given .1) ∙ called .name-at .ensures
 
 returns : tie.Need-returns
 unfolding junctionStep
-returns c = rw (ne-eqb (c .before .before .before .args .progress .turn) 2 (λ e. omega (arith, c .if1 .taken)))
-
--- the turn of a JN
-turn-is : (c : tie.Else1) → c .before .before .before .args .progress .turn ≡ 2
-turn-is c = omega (arith, c .if1 .left)
+returns c = rw (ne-eqb _ namesDue (c .if1 .taken))
 
 returns-2 : tie.Need-returns-2
-returns-2 c = junction-in-turn _ _ _ (turn-is (c .before .before .before)) (sym (c .enum-told .given .1) ∙ c .before .before .read-field .ensures)
+returns-2 c =
+    let in-turn : tie.Else1 = search in
+    let called : tie.After-read-field = search in
+    junction-in-turn _ _ _ (in-turn .if1 .left) (sym (c .enum-told .given .1) ∙ called .read-field .ensures)
 
 returns-3 : tie.Need-returns-3
 returns-3 c =
-    let number = c .before .before .before in
-    let told = sym (c .enum-told2 .given .1) ∙ c .before .before .name-at .ensures in
-    junction-with-name _ _ _ (turn-is (number .before .before .before .before)) (number-read number) told
+    let in-turn : tie.Else1 = search in
+    let read : tie.After-junction = search in
+    let called : tie.After-name-at = search in
+    junction-with-name _ _ _ (in-turn .if1 .left) (number-read read) (sym (c .enum-told2 .given .1) ∙ called .name-at .ensures)
 
 returns-4 : tie.Need-returns-4
 returns-4 c =
-    let name = c .before .before in
-    let number = name .before .before .before .before in
-    let outside = sym (c .before .junction-keeps .ensures) ∙ not-true _ (c .if2 .taken) in
-    junction-outside _ _ _ (turn-is (number .before .before .before .before)) (number-read number) (name-read name) outside
+    let in-turn : tie.Else1 = search in
+    let named : tie.After-end = search in
+    let tested : tie.After-junction-keeps = search in
+    let outside = sym (tested .junction-keeps .ensures) ∙ not-true _ (c .if2 .taken) in
+    junction-outside _ _ _ (in-turn .if1 .left) (number-read (number named)) (name-read named) outside
 
-kept : (c : tie.Else2) → let number = c .before .before .before .before .before .before in junctionKeeps (start number .args .progress) (junction number) ≡ true
-kept c = sym (c .before .junction-keeps .ensures) ∙ not-false _ (c .if2 .left)
+abbrev named : tie.Else2 → tie.After-end
+named c = search
 
-add-t15 : tie.Need-add-t15
-add-t15 c =
-    let number = c .before .before .before .before .before .before in
-    let below = junction-below (start number .args .progress) _ (kept c) in
-    record { fits = omega (arith, below, number .before .before .before .before .before .struct-known .given) }
+kept : (c : tie.Else2) → junctionKeeps (begun (number (named c)) .args .progress) (junction (number (named c))) ≡ true
+kept c = let tested : tie.After-junction-keeps = search in sym (tested .junction-keeps .ensures) ∙ not-false _ (c .if2 .left)
+
+add-after-name : tie.Need-add-after-name
+add-after-name c =
+    let below = junction-below (begun (number (named c)) .args .progress) _ (kept c) in
+    let fields : tie.After-struct-known = search in
+    record { fits = omega (arith, below, fields .struct-known .given) }
 
 returns-5 : tie.Need-returns-5
 returns-5 c =
-    let name = c .before .before in
-    let number = name .before .before .before .before in
-    junction-named _ _ _ (turn-is (number .before .before .before .before)) (number-read number) (name-read name) (kept c)
+    let in-turn : tie.Else1 = search in
+    let inside : tie.Else2 = search in
+    rw (c .after-name .ensures)
+    (junction-named _ _ _ (in-turn .if1 .left) (number-read (number (named inside))) (name-read (named inside)) (kept inside))
 
 pub junction-line-spec : {M : Type 1} → statement M
 junction-line-spec =
@@ -87,5 +93,6 @@ junction-line-spec =
     returns-3
     (λ c κs. search needs)
     returns-4
-    add-t15
+    add-after-name
+    (λ c κs. search needs)
     returns-5)

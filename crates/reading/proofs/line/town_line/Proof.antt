@@ -1,50 +1,60 @@
 -- `line::town_line`: its turn, then its two fields.
 use borrow.Author.Needs.{needs}
 use Prim.Native.Nat.{ℕ}
-use mathlib.Core.Path.{_≡_, sym, _∙_}
+use mathlib.Core.Path.{_≡_, sym, ap, _∙_}
 use borrow.Author.Tests.{ne-eqb}
 use denote.Ref.{now}
+use Rattle.townfile.specs.Lines.{townDue}
 use Rattle.fields.specs.Fields.{fieldAt}
 use Rattle.fields.specs.declared.field.Field.the-variants.{Number}
-use Rattle.reading.specs.code.Kinds.{townStep}
+use Rattle.reading.specs.code.Kinds.{ofNumbers, townStep}
 use Rattle.reading.proofs.Steps.{town-no-first, town-no-second, town-numbers}
 use Rattle.reading.proofs.line.town_line.Statement.{statement}
 use Rattle.reading.proofs.line.town_line.Tie as tie
 
-abbrev start : tie.After-known-told → tie.Start
-start c = c .before .before .before .before .before .before .before
+abbrev begun : tie.After-junctions → tie.Start
+begun c = search
+
+abbrev first : tie.After-intervals → tie.After-junctions
+first c = search
 
 -- where the second field stands
-abbrev second : tie.After-known-told → ℕ
-second c = c .before .junctions .given .0 .1 .0
+abbrev second : tie.After-junctions → ℕ
+second c = c .junctions .given .0 .1 .0
 
-junctions-read : (c : tie.After-known-told) → fieldAt (now (start c .args .text)) (start c .args .at) ≡ Number (c .before .junctions .given .0 .0) (second c)
-junctions-read c = sym (c .before .before .before .read-field .ensures) ∙ c .before .junctions .given .1
+junctions-read : (c : tie.After-junctions) → fieldAt (now (begun c .args .text)) (begun c .args .at) ≡ Number (c .junctions .given .0 .0) (second c)
+junctions-read c = let called : tie.After-read-field = search in sym (called .read-field .ensures) ∙ c .junctions .given .1
 
-intervals-read : (c : tie.After-known-told2) → let first = c .before .before .before .before in
-    fieldAt (now (start first .args .text)) (second first) ≡ Number (c .before .intervals .given .0 .0) (c .before .intervals .given .0 .1 .0)
-intervals-read c = sym (c .before .before .before .read-field2 .ensures) ∙ c .before .intervals .given .1
+intervals-read : (c : tie.After-intervals) →
+    fieldAt (now (begun (first c) .args .text)) (second (first c)) ≡ Number (c .intervals .given .0 .0) (c .intervals .given .0 .1 .0)
+intervals-read c = let called : tie.After-read-field2 = search in sym (called .read-field2 .ensures) ∙ c .intervals .given .1
 
 returns : tie.Need-returns
 unfolding townStep
-returns c = rw (ne-eqb _ 0 (c .if1 .taken))
+returns c = rw (ne-eqb _ townDue (c .if1 .taken))
 
 returns-2 : tie.Need-returns-2
-returns-2 c = town-no-first _ _ _ (c .before .before .before .if1 .left) (sym (c .before .before .read-field .ensures) ∙ c .enum-told .given .1)
+returns-2 c =
+    let in-turn : tie.Else1 = search in
+    let called : tie.After-read-field = search in
+    town-no-first _ _ _ (in-turn .if1 .left) (sym (called .read-field .ensures) ∙ c .enum-told .given .1)
 
 returns-3 : tie.Need-returns-3
 returns-3 c =
-    let first = c .before .before .before in
-    let told = sym (c .before .before .read-field2 .ensures) ∙ c .enum-told2 .given .1 in
-    town-no-second _ _ _ (first .before .before .before .before .if1 .left) (junctions-read first) told
+    let in-turn : tie.Else1 = search in
+    let junctions : tie.After-junctions = search in
+    let called : tie.After-read-field2 = search in
+    town-no-second _ _ _ (in-turn .if1 .left) (junctions-read junctions) (sym (called .read-field2 .ensures) ∙ c .enum-told2 .given .1)
 
 returns-4 : tie.Need-returns-4
 returns-4 c =
-    let ended = c .before in
-    let both = ended .before .before in
-    let first = both .before .before .before .before in
-    let turn = first .before .before .before .before .if1 .left in
-    c .of-numbers .ensures ∙ town-numbers _ _ _ turn (junctions-read first) (intervals-read both) (ended .before .town-keeps .ensures) (ended .numbers-end .ensures)
+    let in-turn : tie.Else1 = search in
+    let intervals : tie.After-intervals = search in
+    let tested : tie.After-town-keeps = search in
+    let ended : tie.After-numbers-end = search in
+    let next : tie.After-after-town = search in
+    let read = town-numbers _ _ _ (in-turn .if1 .left) (junctions-read (first intervals)) (intervals-read intervals) in
+    c .of-numbers .ensures ∙ ap (ofNumbers (ended .numbers-end .result)) (next .after-town .ensures) ∙ read (tested .town-keeps .ensures) (ended .numbers-end .ensures)
 
 pub town-line-spec : {M : Type 1} → statement M
 town-line-spec =
@@ -59,6 +69,7 @@ town-line-spec =
     (λ c. search needs)
     (λ c. search needs)
     returns-3
+    (λ c κs. search needs)
     (λ c κs. search needs)
     (λ c κs. search needs)
     (λ c κs. search needs)

@@ -12,15 +12,15 @@ use Rattle.scanning.proofs.Scanning.{line-without-feed, line-too-long, 
 use Rattle.scanning.proofs.scan.next_line.Statement.{statement}
 use Rattle.scanning.proofs.scan.next_line.Tie as tie
 
-abbrev start : tie.After-known-told → tie.Start
-start c = c .before .before .before .before .before
+abbrev begun : tie.After-known-told → tie.Start
+begun c = search
 
 -- the line's bytes are read
-read : (c : tie.After-known-told) → let told = c .before .progress .given .0 in
-    replied (step (told .0) (told .1 .0)) ≡ lineStep (start c .args .progress) (now (start c .args .text)) (start c .args .at)
-read c = ap outcomeOf (sym (c .before .progress .given .1)) ∙ c .before .before .before .read-line .ensures
+read : (c : tie.After-known-told) → let told = c .before .progress .given .0 in let args = begun c .args in
+    replied (step (told .0) (told .1 .0)) ≡ lineStep (args .progress) (now (args .text)) (args .at)
+read c = let called : tie.After-read-line = search in ap outcomeOf (sym (c .before .progress .given .1)) ∙ called .read-line .ensures
 
-ends : (c : tie.After-known-told) → c .before .progress .given .0 .1 .0 ≡ start c .args .at + length (lineFrom (now (start c .args .text)) (start c .args .at))
+ends : (c : tie.After-known-told) → let args = begun c .args in c .before .progress .given .0 .1 .0 ≡ args .at + length (lineFrom (now (args .text)) (args .at))
 ends c = read-ends _ _ _ (read c) .1
 
 returns : tie.Need-returns
@@ -36,7 +36,10 @@ returns-3 : tie.Need-returns-3
 returns-3 c = let told = c .before .before in read told ∙ line-of-bytes _ _ _ (λ e. c .before .if1 .left (ends told ∙ e)) (omega (arith, ends told))
 
 returns-4 : tie.Need-returns-4
-returns-4 c = line-faults _ _ _ (ap outcomeOf (sym (c .before .before .refusal .given .1)) ∙ c .before .before .before .before .read-line .ensures) (c .line-fault .ensures)
+returns-4 c =
+    let called : tie.After-read-line = search in
+    let told : tie.After-refusal = search in
+    line-faults _ _ _ (ap outcomeOf (sym (told .refusal .given .1)) ∙ called .read-line .ensures) (c .line-fault .ensures)
 
 pub next-line-spec : {M : Type 1} → statement M
 next-line-spec =

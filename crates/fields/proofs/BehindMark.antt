@@ -11,7 +11,8 @@ use borrow.Author.Tests.{ne-eqb}
 use Rattle.model.proofs.Tests.{eqb-cases, ltb-cases}
 use Rattle.townfile.specs.Bytes.{lineFeed, space, upTo, pieces}
 use Rattle.townfile.specs.Lines.{markOf, known, markAlone, fieldsOf}
-use Rattle.townfile.proofs.Marks.{Known, known-mark, town-mark, fences-mark, junction-mark, arc-mark, comment-mark}
+use Rattle.townfile.specs.LineFaults.{Known, town-mark, fences-mark, junction-mark, arc-mark, comment-mark}
+use Rattle.townfile.proofs.Marks.{known-mark}
 use Rattle.townfile.proofs.FieldForm.{pieces-later}
 use Rattle.fields.specs.Fields.{lineFrom, wordFrom, fieldsFrom}
 use Rattle.fields.proofs.LineFrom.{line-ends, line-feed-ends, line-goes-on}

@@ -22,7 +22,8 @@ use Rattle.townfile.specs.FirstFault.{Reading, refusedAt, accepted, start, atEn
 use Rattle.townfile.specs.Tables.{marked}
 use Rattle.townfile.specs.Load.{Tables, countsOf, tooShort, loadAnswer}
 use Rattle.townfile.specs.declared.progress.Progress.{Progress}
-use Rattle.townfile.proofs.Marks.{Known, known-mark, town-mark, fences-mark, junction-mark, arc-mark, comment-mark}
+use Rattle.townfile.specs.LineFaults.{Known, town-mark, fences-mark, junction-mark, arc-mark, comment-mark}
+use Rattle.townfile.proofs.Marks.{known-mark}
 use Rattle.townfile.proofs.Described.{described-town}
 use Rattle.townfile.proofs.Load.{load-accepts-when-described}
 use Rattle.townfile.proofs.Pieces.{upTo-has-none}

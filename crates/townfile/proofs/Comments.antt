@@ -5,10 +5,10 @@ use mathlib.Core.List.{List, [], _∷_, append-cancel-right}
 use native.Mathlib.Omega.{arith}
 use lib.ListN.{length, length-append}
 use Rattle.townfile.specs.Bytes.{lineFeed, pieces}
-use Rattle.townfile.specs.Grammar.{Town, Each, Line, TN, FN, JN, AR, CM, Reads, ReadsAll, no-lines, reads-line, joined, withoutComments, Describes}
+use Rattle.townfile.specs.Grammar.{Town, Each, Line, TN, FN, JN, AR, CM, Reads, ReadsAll, no-lines, reads-line, joined, withoutComments, Describes, Unbroken}
 use Rattle.townfile.specs.Grammar.{Commented, nothing-added, kept-line, added-comment}
 use Rattle.townfile.specs.Tables.{CommentsChangeNothing}
-use Rattle.townfile.proofs.Joined.{Unbroken, joined-pieces}
+use Rattle.townfile.proofs.Joined.{joined-pieces}
 use Rattle.townfile.proofs.Described.{all-unbroken}
 use Rattle.townfile.proofs.LineForm.{reads-says, reads-unbroken}
 

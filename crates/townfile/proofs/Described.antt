@@ -10,13 +10,13 @@ use lib.ListN.{length}
 use borrow.Author.Tests.{ltb-false, le-ltb}
 use Rattle.model.proofs.NetworkRules.{accepts-when-kept}
 use Rattle.townfile.specs.Bytes.{lineFeed, pieces}
-use Rattle.townfile.specs.Grammar.{Bytes, Town, networkOf, Each, ReadsAll, no-lines, reads-line, Line, joined, inOrder, Describes}
+use Rattle.townfile.specs.Grammar.{Bytes, Town, networkOf, Each, ReadsAll, no-lines, reads-line, Line, joined, inOrder, Describes, Unbroken}
 use Rattle.townfile.specs.FirstFault.{Reading, refusedAt, accepted, start, linesFrom, firstFault}
 use Rattle.townfile.specs.Tables.{townOf, DescribesWhenFaultless, OneTown, DescribedIsAccepted}
 use Rattle.townfile.specs.declared.progress.Progress.{Progress}
 use Rattle.townfile.proofs.Pieces.{pieces-next}
 use Rattle.townfile.proofs.Says.{saysOf}
-use Rattle.townfile.proofs.Joined.{Unbroken, joined-pieces, pieces-joined, joined-bytes}
+use Rattle.townfile.proofs.Joined.{joined-pieces, pieces-joined, joined-bytes}
 use Rattle.townfile.proofs.Order.{afterAll, accepted-ends, accepted-legal, legal-accepted}
 use Rattle.townfile.proofs.Kept.{parts-kept, kept-parts}
 use Rattle.townfile.proofs.Turns.{commented-legal, after-commented, legal-town, town-legal}

@@ -122,7 +122,9 @@ parts-kept {T} parts =
             le-ltb maxArcs (length (map (λ a. a .tail) (T .arcs))) (rw length-map (parts .arcs-few)),
             (
               ap not
-                  (both-true (both-true (both-true (eq-eqb _ _ (as-long (λ a. a .head))) (eq-eqb _ _ (as-long (λ a. a .metres)))) (eq-eqb _ _ (as-long (λ a. 0)))) (eq-eqb _ _ speeds-long)),
+                  (both-true
+                  (both-true (both-true (eq-eqb _ _ (as-long (λ a. a .head))) (eq-eqb _ _ (as-long (λ a. a .metres)))) (eq-eqb _ _ (as-long (λ a. 0))))
+                  (eq-eqb _ _ speeds-long)),
               (ap not (parts .fences-keep), (ap not (arcs .ends), (ap not (arcs .lengths), (ap not (arcs .speeds), (ap not (arcs .holds), tt))))),
             ),
           ),

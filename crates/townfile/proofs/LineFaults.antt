@@ -14,7 +14,8 @@ use Rattle.model.proofs.Rules.{true-both, both-true, kept-length, length-kept, 
 use Rattle.townfile.specs.Bytes.{printable}
 use Rattle.townfile.specs.Numbers.{numberKeeps}
 use Rattle.townfile.specs.Grammar.{Arc, Line, TN, FN, JN, AR, CM}
-use Rattle.townfile.specs.Lines.{markTN, markFN, markJN, markAR, markCM, markOf, byMark, known, markAlone, numbersKeep, numberField, nameField, nameKeeps, formKeeps}
+use Rattle.townfile.specs.Lines.{markTN, markFN, markJN, markAR, markCM, markOf, byMark, known, townDue, fencesDue, namesDue, inTurn}
+use Rattle.townfile.specs.Lines.{markAlone, numbersKeep, numberField, nameField, nameKeeps, formKeeps}
 use Rattle.townfile.specs.LineFaults.{TownWithin, ArcWithin, WithinLimits, FormKeptWhenReads, ValuesKeptWhenWithin}
 use Rattle.townfile.specs.declared.progress.Progress.{Progress}
 use Rattle.townfile.proofs.Says.{saysOf}
@@ -35,6 +36,9 @@ by-mark-known mark town fences junction arc comment = go (eqb mark markTN) (eqb 
     go false false false true e kept = refl
     go false false false false true kept = refl
     go false false false false false kept = kept
+
+pub in-turn-known : (turn mark : ℕ) → inTurn turn mark ≡ true → known mark ≡ true
+in-turn-known turn mark = by-mark-known mark (eqb turn townDue) (eqb turn fencesDue) (eqb turn namesDue) (leb namesDue turn) true
 
 form-known : (p : Progress) (line : List ℕ) → formKeeps p line ≡ true → known (markOf line) ≡ true
 unfolding formKeeps

@@ -14,15 +14,16 @@ use Rattle.model.specs.Rules.{every}
 use Rattle.model.proofs.Rules.{true-both, both-true}
 use Rattle.townfile.specs.Bytes.{lineFeed, space, printable, upTo, pieces}
 use Rattle.townfile.specs.Numbers.{decimal, numberKeeps}
-use Rattle.townfile.specs.Grammar.{Bytes, Fields, Number, Name, Printable, Line, TN, JN, AR, CM, Reads, town-line, fences-line, junction-line, arc-line, bare-comment, comment-line}
+use Rattle.townfile.specs.Grammar.{Bytes, Fields, Number, Name, Printable, Line, TN, JN, AR, CM}
+use Rattle.townfile.specs.Grammar.{Reads, town-line, fences-line, junction-line, arc-line, bare-comment, comment-line}
 use Rattle.townfile.specs.Lines.{markOf, known, markAlone, fieldsOf, numbersOf, numbersKeep, numberField, nameField, nameKeeps, formKeeps}
 use Rattle.townfile.specs.LineFaults.{CountsMatch}
 use Rattle.townfile.specs.Tables.{namedOf}
+use Rattle.townfile.specs.LineFaults.{town-mark, fences-mark, junction-mark, arc-mark, comment-mark}
 use Rattle.townfile.specs.declared.progress.Progress.{Progress}
 use Rattle.townfile.proofs.FieldForm.{upTo-part, upTo-behind, upTo-none, pieces-later, pieces-fields, fields-pieces, fields-lack}
 use Rattle.townfile.proofs.Lacks.{Lacks, cons-lacks, append-lacks}
-use Rattle.townfile.proofs.Marks.{town-mark, fences-mark, junction-mark, arc-mark, comment-mark, known-mark}
-use Rattle.townfile.proofs.Marks.{MarkedLine, town-bytes, fences-bytes, junction-bytes, arc-bytes, comment-bytes, marked-line}
+use Rattle.townfile.proofs.Marks.{known-mark, MarkedLine, town-bytes, fences-bytes, junction-bytes, arc-bytes, comment-bytes, marked-line}
 use Rattle.townfile.proofs.NameForm.{keeps-printable, printable-keeps, keeps-name, name-keeps}
 use Rattle.townfile.proofs.NumberForm.{keeps-number, number-keeps, number-lacks}
 use Rattle.townfile.proofs.Says.{saysOf, markOfSays}

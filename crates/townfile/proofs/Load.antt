@@ -10,7 +10,8 @@ use borrow.Author.Tests.{ltb-false, le-ltb}
 use Rattle.model.specs.Network.{arcs, intervals}
 use Rattle.townfile.specs.Grammar.{Bytes, Town, networkOf, inOrder, Describes}
 use Rattle.townfile.specs.FirstFault.{Reading, refusedAt, accepted, start, firstFault}
-use Rattle.townfile.specs.Load.{Counts, Tables, countsOf, tooShort, intoTables, loadAnswer, holding, tablesAfter, LongEnough, countsOfTown, LoadAcceptsWhenDescribed, TooShortWhenDescribed}
+use Rattle.townfile.specs.Load.{Counts, Tables, countsOf, tooShort, intoTables, loadAnswer, holding, tablesAfter, LongEnough, countsOfTown}
+use Rattle.townfile.specs.Load.{LoadAcceptsWhenDescribed, TooShortWhenDescribed}
 use Rattle.townfile.specs.declared.progress.Progress.{Progress}
 use Rattle.townfile.proofs.Order.{afterAll}
 use Rattle.townfile.proofs.Turns.{town-counted}

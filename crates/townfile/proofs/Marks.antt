@@ -8,13 +8,7 @@ use native.Mathlib.Omega.{arith}
 use Rattle.model.proofs.Tests.{eqb-cases}
 use Rattle.townfile.specs.Grammar.{Bytes}
 use Rattle.townfile.specs.Lines.{markTN, markFN, markJN, markAR, markCM, markOf, known}
-
-pub data Known (mark : ℕ) : Type 0 where
-  town-mark : mark ≡ markTN → Known mark
-  fences-mark : mark ≡ markFN → Known mark
-  junction-mark : mark ≡ markJN → Known mark
-  arc-mark : mark ≡ markAR → Known mark
-  comment-mark : mark ≡ markCM → Known mark
+use Rattle.townfile.specs.LineFaults.{Known, town-mark, fences-mark, junction-mark, arc-mark, comment-mark}
 
 pub known-mark : (mark : ℕ) → known mark ≡ true → Known mark
 known-mark mark e = elim (eqb-cases mark markTN) [

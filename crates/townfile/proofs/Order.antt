@@ -13,7 +13,8 @@ use Rattle.model.specs.NetworkRules.{junctionsKeep}
 use Rattle.model.specs.Rules.{Outcome, refused, replied, every, fencesKeep, lengthKeeps, speedKeeps}
 use Rattle.model.proofs.Rules.{true-both, kept-replies, replies-kept}
 use Rattle.townfile.specs.Grammar.{Bytes, Arc, Each, Line, TN, FN, JN, AR, CM, Reads, ReadsAll, no-lines, reads-line}
-use Rattle.townfile.specs.Lines.{markOf, byMark, known, inTurn, formKeeps, junctionKeeps, endsDiffer, valuesKeep, lineRules, afterTown, afterFences, afterJunction, afterArc, lineRead, lineAnswer}
+use Rattle.townfile.specs.Lines.{markOf, byMark, known, inTurn, formKeeps, junctionKeeps, endsDiffer, valuesKeep, lineRules}
+use Rattle.townfile.specs.Lines.{afterTown, afterFences, afterJunction, afterArc, lineRead, lineAnswer}
 use Rattle.townfile.specs.LineFaults.{CountsMatch}
 use Rattle.townfile.specs.FirstFault.{refusedAt, accepted, atEnd, onward, linesFrom}
 use Rattle.townfile.specs.declared.progress.Progress.{Progress}
@@ -87,12 +88,12 @@ known-said CM = refl
 
 -- ---- Lines
 
--- A line in front of others and of the empty piece behind them.
-lines-next : (p : Progress) (number : ℕ) (line : List ℕ) (lines : List (List ℕ)) →
-    linesFrom p number (line ∷ (lines ++ ([] ∷ []))) ≡ onward (lineAnswer p line) number (λ q. linesFrom q (suc number) (lines ++ ([] ∷ [])))
+-- A line in front of others and of a last piece behind them.
+pub lines-next : (p : Progress) (number : ℕ) (line : List ℕ) (lines : List (List ℕ)) (next : List ℕ) (rest : List (List ℕ)) →
+    linesFrom p number (line ∷ (lines ++ (next ∷ rest))) ≡ onward (lineAnswer p line) number (λ q. linesFrom q (suc number) (lines ++ (next ∷ rest)))
 unfolding linesFrom
-lines-next p number line [] = refl
-lines-next p number line (next ∷ lines) = refl
+lines-next p number line [] next rest = refl
+lines-next p number line (other ∷ lines) next rest = refl
 
 at-end : (p q : Progress) (number : ℕ) → atEnd p number ≡ accepted q → 2 ≤ p .turn
 at-end p q number e = go (ltb (p .turn) 2) refl e
@@ -161,7 +162,8 @@ pub accepted-legal : (p q : Progress) (number : ℕ) (lines : List (List ℕ)) �
     ReadsAll lines (map saysOf lines) × Legal p (map saysOf lines)
 unfolding linesFrom Each Legal
 accepted-legal p q number [] bytes e = (no-lines, at-end p q number e)
-accepted-legal p q number (line ∷ lines) bytes e = go (lineAnswer p line) refl (λ q′. accepted-legal q′ q (suc number) lines (bytes .1)) (sym (lines-next p number line lines) ∙ e)
+accepted-legal p q number (line ∷ lines) bytes e =
+    go (lineAnswer p line) refl (λ q′. accepted-legal q′ q (suc number) lines (bytes .1)) (sym (lines-next p number line lines [] []) ∙ e)
   where
     go : (answer : Outcome Progress) → lineAnswer p line ≡ answer →
         ((q′ : Progress) → linesFrom q′ (suc number) (lines ++ ([] ∷ [])) ≡ accepted q → ReadsAll lines (map saysOf lines) × Legal q′ (map saysOf lines)) →
@@ -178,4 +180,4 @@ pub legal-accepted : (p : Progress) (number : ℕ) {lines : List (List ℕ)} {sa
 unfolding linesFrom Legal afterAll
 legal-accepted p number no-lines legal = rw (le-ltb (p .turn) 2 legal)
 legal-accepted p number (reads-line {bytes = line} {says = says} {lines = lines} short reads all) legal =
-    lines-next p number line lines ∙ rw (said-line p short reads (legal .0)) (legal-accepted (afterSaid p says) (suc number) all (legal .1))
+    lines-next p number line lines [] [] ∙ rw (said-line p short reads (legal .0)) (legal-accepted (afterSaid p says) (suc number) all (legal .1))

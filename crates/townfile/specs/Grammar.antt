@@ -110,6 +110,10 @@ pub data ReadsAll : List (List ℕ) → List Line → Type 0 where
   reads-line : {bytes : List ℕ} {says : Line} {lines : List (List ℕ)} {say : List Line} →
       length bytes ≤ 700 → Reads bytes says → ReadsAll lines say → ReadsAll (bytes ∷ lines) (says ∷ say)
 
+-- No line feed inside.
+abbrev pub Unbroken : List ℕ → Type 0
+Unbroken line = (i : ℕ) → i < length line → getD line i 0 ≡ lineFeed → ⊥
+
 -- "In lines that each end in byte 10 (LF)."
 unfoldable pub joined : List (List ℕ) → List ℕ
 joined [] = []
@@ -142,9 +146,8 @@ pub record Describes (text : List ℕ) (T : Town) : Type 0 where
 
 -- ---- Comments
 
--- The second list of lines is the first with comments added anywhere. No line has a line feed inside.
+-- The second list of lines is the first with comments added anywhere.
 pub data Commented : List (List ℕ) → List (List ℕ) → Type 0 where
   nothing-added : Commented [] []
-  kept-line : {line : List ℕ} {lines more : List (List ℕ)} →
-      ((i : ℕ) → i < length line → getD line i 0 ≡ lineFeed → ⊥) → Commented lines more → Commented (line ∷ lines) (line ∷ more)
+  kept-line : {line : List ℕ} {lines more : List (List ℕ)} → Unbroken line → Commented lines more → Commented (line ∷ lines) (line ∷ more)
   added-comment : {comment : List ℕ} {lines more : List (List ℕ)} → Reads comment CM → length comment ≤ 700 → Commented lines more → Commented lines (comment ∷ more)

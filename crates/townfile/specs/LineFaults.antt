@@ -1,6 +1,6 @@
--- What 25 and 26 say of a line, in the grammar's terms: "25, fields not of the form above or not of the right number; 26, a field outside
--- the network's limits, a first fence not 0, a `JN` number not below the junction count, a fence or `JN` number not rising, tail equal
--- to head, or the 641st `AR`." The tests themselves stand in Lines.
+-- What 23, 25 and 26 say of a line, in the grammar's terms: "23, no known mark; [..] 25, fields not of the form above or not of the right number;
+-- 26, a field outside the network's limits, a first fence not 0, a `JN` number not below the junction count, a fence or `JN` number not rising,
+-- tail equal to head, or the 641st `AR`." The tests themselves stand in Lines.
 use Prim.Native.Nat.{ℕ, _≤_, _<_}
 use mathlib.Core.Path.{_≡_}
 use mathlib.Core.Bool.{true}
@@ -10,8 +10,16 @@ use lib.ListN.{length, getD}
 use Rattle.model.specs.Intervals.{FencesKept}
 use Rattle.model.specs.Limits.{maxJunctions, maxIntervals, maxArcs, maxLength, maxSpeed}
 use Rattle.townfile.specs.Grammar.{Bytes, Arc, Line, TN, FN, JN, AR, CM, Reads}
-use Rattle.townfile.specs.Lines.{formKeeps, valuesKeep}
+use Rattle.townfile.specs.Lines.{markTN, markFN, markJN, markAR, markCM, formKeeps, valuesKeep}
 use Rattle.townfile.specs.declared.progress.Progress.{Progress}
+
+-- The five marks.
+pub data Known (mark : ℕ) : Type 0 where
+  town-mark : mark ≡ markTN → Known mark
+  fences-mark : mark ≡ markFN → Known mark
+  junction-mark : mark ≡ markJN → Known mark
+  arc-mark : mark ≡ markAR → Known mark
+  comment-mark : mark ≡ markCM → Known mark
 
 -- The right number of fields, after the lines before: "the fences, as many as intervals", "one speed per interval".
 abbrev pub CountsMatch : Progress → Line → Type 0

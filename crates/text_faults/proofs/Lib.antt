@@ -1,0 +1,4 @@
+pub mod Faulty
+pub mod LineRules
+pub mod OneMore
+pub mod Order

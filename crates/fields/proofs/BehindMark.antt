@@ -1,6 +1,6 @@
 -- What stands behind a line's mark: the two bytes of a known mark are no spaces, so the fields of the line are those behind it.
 use Prim.Native.Nat.{ℕ, suc, _+_, _*_, _≤_, _<_}
-use mathlib.Core.Path.{_≡_, ap, _∙_}
+use mathlib.Core.Path.{_≡_, _∙_}
 use mathlib.Core.Bool.{true}
 use mathlib.Core.Logic.{inl, inr}
 use mathlib.Core.List.{List, _∷_}
@@ -69,10 +69,9 @@ module _ (text : List ℕ) (at : ℕ) (byte : getD text (at + 1) 0 < 256) where
         | inl inside2 ↦ elim (eqb-cases (getD text (at + 1) 0) lineFeed) [
           | inl feed ↦ absurd (not-nothing (rw (line-goes-on text at (inside .1) (other .1), line-feed-ends text (at + 1) (inside2 .1) (feed .1), markOf) at is))
           | inr other2 ↦
-              two-bytes
-              (omega (arith, inside2 .1))
-              (line-goes-on text at (inside .1) (other .1) ∙ rw (line-goes-on text (at + 1) (inside2 .1) (other2 .1)) (ap (λ k. getD text at 0 ∷ getD text (at + 1) 0 ∷ lineFrom text k) (omega arith)))
-              is
+              let third : at + 1 + 1 ≡ at + 2 = omega arith in
+              let second = line-goes-on text (at + 1) (inside2 .1) (other2 .1) in
+              two-bytes (omega (arith, inside2 .1)) (line-goes-on text at (inside .1) (other .1) ∙ rw (second, third)) is
         ]
       ]
     ]

@@ -144,11 +144,13 @@ module _ (text : List ℕ) (at : ℕ) (here : at < length text) (gap : getD text
         let word = digit-word text (at + 1) inside (omega arith) (omega arith) in
         rw (is-gap, word, e, keeps-zero (wordFrom text (at + 1 + 1))) (go (wordFrom text (at + 1 + 1)))
       where
-        go : (more : List ℕ) → cond (eqb (length more) 0) (Number 0 (at + 1 + 1)) Malformed ≡ cond (eqb (length more) 0) (Number (decimal (48 ∷ more)) (at + 1 + length (48 ∷ more))) Malformed
+        go : (more : List ℕ) → cond (eqb (length more) 0) (Number 0 (at + 1 + 1)) Malformed
+            ≡ cond (eqb (length more) 0) (Number (decimal (48 ∷ more)) (at + 1 + length (48 ∷ more))) Malformed
         go [] = refl
         go (byte ∷ more) = rw (eqb·suc-zero (length more))
 
-    pub first-digit : (getD text (at + 1) 0 ≡ 48 → ⊥) → 48 ≤ getD text (at + 1) 0 → getD text (at + 1) 0 < 58 → numberFrom text (at + 1 + 1) (getD text (at + 1) 0 - 48) ≡ fieldAt text at
+    pub first-digit : (getD text (at + 1) 0 ≡ 48 → ⊥) → 48 ≤ getD text (at + 1) 0 → getD text (at + 1) 0 < 58 →
+        numberFrom text (at + 1 + 1) (getD text (at + 1) 0 - 48) ≡ fieldAt text at
     unfolding fieldAt numberFrom decimalFrom
     first-digit other low high =
         let first = getD text (at + 1) 0 in

@@ -126,7 +126,8 @@ module _ (text : List ℕ) (at : ℕ) (gap : eqb (getD (lineFrom text at) 0 0) s
 
 module _ (text : List ℕ) (at : ℕ) where
   -- A count is not filled unless the line ends here or a space follows.
-  unfilled : (count : ℕ) → (lineFrom text at ≡ [] → filledBy count text at ≡ false) → (eqb (getD (lineFrom text at) 0 0) space ≡ true → filledBy count text at ≡ false) → filledBy count text at ≡ false
+  unfilled : (count : ℕ) → (lineFrom text at ≡ [] → filledBy count text at ≡ false) →
+      (eqb (getD (lineFrom text at) 0 0) space ≡ true → filledBy count text at ≡ false) → filledBy count text at ≡ false
   unfilled count ended gap = go (eqb (length (wordFrom text at)) 0) refl
     where
       go : (none : Bool) → eqb (length (wordFrom text at)) 0 ≡ none → filledBy count text at ≡ false

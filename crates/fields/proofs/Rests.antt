@@ -12,8 +12,7 @@ use Rattle.model.specs.Rules.{every}
 use Rattle.model.proofs.Tests.{eqb-cases}
 use Rattle.townfile.specs.Bytes.{lineFeed, space, printable}
 use Rattle.townfile.specs.Lines.{nameKeeps}
-use Rattle.fields.specs.Fields.{lineFrom, restIf, printableRest, nameRest}
-use Rattle.fields.specs.Fields.{nameAt}
+use Rattle.fields.specs.Fields.{lineFrom, restIf, printableRest, nameRest, nameAt}
 use Rattle.fields.specs.declared.field.Rest.the-variants.{Good, Malformed}
 use Rattle.fields.proofs.LineFrom.{line-ends, line-feed-ends, line-goes-on, line-at, line-inside}
 

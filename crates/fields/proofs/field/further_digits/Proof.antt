@@ -21,13 +21,13 @@ loop-holds c = (refl, omega arith)
 
 returns : tie.Need-returns Inv-loop μ-loop
 returns c =
-    let turn = c .before .before in
+    let turn : tie.In-loop Inv-loop μ-loop = search in
     number-ends _ _ _ (separator-ends _ _ (turn .loop-test .taken) (c .match .keys1)) (turn .before .loop .inv .1) ∙ turn .before .loop .inv .0
 
 returns-2 : tie.Need-returns-2 Inv-loop μ-loop
 returns-2 c =
+    let turn : tie.In-loop Inv-loop μ-loop = search in
     let digit = c .before in
-    let turn = digit .before .before .before .before in
     number-too-long _ _ _ (turn .loop-test .taken) (digit .before .if1 .left) (digit .if2 .taken) (omega (arith, c .if3 .taken)) ∙ turn .before .loop .inv .0
 
 mul-value : tie.Need-mul-value Inv-loop μ-loop
@@ -41,18 +41,18 @@ add-value c = record { fits = omega arith }
 
 returns-3 : tie.Need-returns-3 Inv-loop μ-loop
 returns-3 c =
-    let turn = c .before .before .before in
+    let turn : tie.In-loop Inv-loop μ-loop = search in
     number-stops _ _ _ (turn .loop-test .taken) (c .before .match .rest .1) (below-digits _ (c .if1 .taken)) ∙ turn .before .loop .inv .0
 
 returns-4 : tie.Need-returns-4 Inv-loop μ-loop
 returns-4 c =
-    let turn = c .before .before .before .before in
+    let turn : tie.In-loop Inv-loop μ-loop = search in
     number-stops _ _ _ (turn .loop-test .taken) (c .before .before .match .rest .1) (above-digits _ (c .if2 .left)) ∙ turn .before .loop .inv .0
 
 loop-again : tie.Need-loop-again Inv-loop μ-loop
 loop-again c =
+    let turn : tie.In-loop Inv-loop μ-loop = search in
     let digit = c .before in
-    let turn = digit .before .before .before .before in
     (number-goes-on _ _ _ (turn .loop-test .taken) (digit .before .if1 .left) (digit .if2 .taken) ∙ turn .before .loop .inv .0, omega arith)
 
 returns-5 : tie.Need-returns-5 Inv-loop μ-loop

@@ -18,10 +18,10 @@ loop-holds : tie.Need-loop-holds Inv-loop μ-loop
 loop-holds c = refl
 
 returns : tie.Need-returns Inv-loop μ-loop
-returns c = end-here _ _ (line-feed-ends _ _ (c .before .before .loop-test .taken) (c .if1 .taken)) ∙ c .before .before .before .loop .inv
+returns c = let turn : tie.In-loop Inv-loop μ-loop = search in end-here _ _ (line-feed-ends _ _ (turn .loop-test .taken) (c .if1 .taken)) ∙ turn .before .loop .inv
 
 loop-again : tie.Need-loop-again Inv-loop μ-loop
-loop-again c = end-goes-on _ _ (c .before .before .loop-test .taken) (c .if1 .left) ∙ c .before .before .before .loop .inv
+loop-again c = let turn : tie.In-loop Inv-loop μ-loop = search in end-goes-on _ _ (turn .loop-test .taken) (c .if1 .left) ∙ turn .before .loop .inv
 
 returns-2 : tie.Need-returns-2 Inv-loop μ-loop
 returns-2 c = end-here _ _ (line-ends _ _ (c .loop-test .left)) ∙ c .before .loop .inv

@@ -12,16 +12,17 @@ returns-2 : tie.Need-returns-2
 returns-2 c = no-second-byte _ _ (c .before .if1 .left) (c .if2 .taken)
 
 returns-3 : tie.Need-returns-3
-returns-3 c = first-is-feed _ _ (c .before .before .before .if1 .left) (c .if3 .taken)
+returns-3 c = let one : tie.Else1 = search in first-is-feed _ _ (one .if1 .left) (c .if3 .taken)
 
 returns-4 : tie.Need-returns-4
-returns-4 c = second-is-feed _ _ (c .before .before .before .before .before .if1 .left) (c .before .before .before .before .if2 .left) (c .if4 .taken)
+returns-4 c = let two : tie.Else2 = search in second-is-feed _ _ (two .before .if1 .left) (two .if2 .left) (c .if4 .taken)
 
 returns-5 : tie.Need-returns-5
 returns-5 c =
-    let else4 = c .before .before .before in
-    let else2 = else4 .before .before .before .before in
-    c .mark-of .ensures ∙ two-bytes-mark _ _ (else2 .before .if1 .left) (else2 .if2 .left) (else4 .before .before .if3 .left) (else4 .if4 .left)
+    let two : tie.Else2 = search in
+    let first : tie.Else3 = search in
+    let second : tie.Else4 = search in
+    c .mark-of .ensures ∙ two-bytes-mark _ _ (two .before .if1 .left) (two .if2 .left) (first .if3 .left) (second .if4 .left)
 
 pub mark-at-spec : {M : Type 1} → statement M
 mark-at-spec =

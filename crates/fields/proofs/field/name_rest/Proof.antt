@@ -9,12 +9,12 @@ use Rattle.fields.proofs.Rests.{name-not-printable, name-empty, name-to
 use Rattle.fields.proofs.field.name_rest.Statement.{statement}
 use Rattle.fields.proofs.field.name_rest.Tie as tie
 
-abbrev start : tie.After-known-told → tie.Start
-start c = c .before .before .before .before .before
+abbrev begun : tie.After-known-told → tie.Start
+begun c = search
 
 -- the line's rest can be printed
-good : (c : tie.After-known-told) → printableRest (now (start c .args .text)) (start c .args .at) ≡ Good (c .before .end .given .0 .0)
-good c = sym (c .before .before .before .printable .ensures) ∙ c .before .end .given .1
+good : (c : tie.After-known-told) → printableRest (now (begun c .args .text)) (begun c .args .at) ≡ Good (c .before .end .given .0 .0)
+good c = let called : tie.After-printable = search in sym (called .printable .ensures) ∙ c .before .end .given .1
 
 returns : tie.Need-returns
 returns c = name-not-printable _ _ (sym (c .before .before .printable .ensures) ∙ c .enum-told .given .1)
@@ -26,25 +26,30 @@ returns-3 : tie.Need-returns-3
 returns-3 c = name-too-long _ _ (good (c .before .before)) (c .before .if1 .left) (c .if2 .taken)
 
 shared-slice-read-if3 : tie.Need-shared-slice-read-if3
-shared-slice-read-if3 c = let else2 = c .before in omega (arith, name-inside _ _ (good (else2 .before .before)) (else2 .before .if1 .left))
+shared-slice-read-if3 c = let some : tie.Else1 = search in omega (arith, name-inside _ _ (good (some .before)) (some .if1 .left))
 
 returns-4 : tie.Need-returns-4
-returns-4 c = let else2 = c .before .before in name-begins-with-space _ _ (good (else2 .before .before)) (else2 .before .if1 .left) (else2 .if2 .left) (c .if3 .taken)
+returns-4 c =
+    let some : tie.Else1 = search in
+    let few : tie.Else2 = search in
+    name-begins-with-space _ _ (good (some .before)) (some .if1 .left) (few .if2 .left) (c .if3 .taken)
 
 shared-slice-read-if4 : tie.Need-shared-slice-read-if4
-shared-slice-read-if4 c = let else2 = c .before .before .before in omega (arith, name-inside _ _ (good (else2 .before .before)) (else2 .before .if1 .left))
+shared-slice-read-if4 c = let some : tie.Else1 = search in omega (arith, name-inside _ _ (good (some .before)) (some .if1 .left))
 
 returns-5 : tie.Need-returns-5
 returns-5 c =
-    let else3 = c .before .before in
-    let else2 = else3 .before .before in
-    name-ends-with-space _ _ (good (else2 .before .before)) (else2 .before .if1 .left) (else2 .if2 .left) (else3 .if3 .left) (c .if4 .taken)
+    let some : tie.Else1 = search in
+    let few : tie.Else2 = search in
+    let first : tie.Else3 = search in
+    name-ends-with-space _ _ (good (some .before)) (some .if1 .left) (few .if2 .left) (first .if3 .left) (c .if4 .taken)
 
 returns-6 : tie.Need-returns-6
 returns-6 c =
-    let else3 = c .before .before in
-    let else2 = else3 .before .before in
-    name-is-good _ _ (good (else2 .before .before)) (else2 .before .if1 .left) (else2 .if2 .left) (else3 .if3 .left) (c .if4 .left)
+    let some : tie.Else1 = search in
+    let few : tie.Else2 = search in
+    let first : tie.Else3 = search in
+    name-is-good _ _ (good (some .before)) (some .if1 .left) (few .if2 .left) (first .if3 .left) (c .if4 .left)
 
 pub name-rest-spec : {M : Type 1} → statement M
 name-rest-spec =

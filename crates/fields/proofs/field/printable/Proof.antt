@@ -19,16 +19,20 @@ loop-holds : tie.Need-loop-holds Inv-loop μ-loop
 loop-holds c = refl
 
 returns : tie.Need-returns Inv-loop μ-loop
-returns c = rest-ends _ _ (line-feed-ends _ _ (c .before .before .loop-test .taken) (c .match .keys1)) ∙ c .before .before .before .loop .inv
+returns c = let turn : tie.In-loop Inv-loop μ-loop = search in rest-ends _ _ (line-feed-ends _ _ (turn .loop-test .taken) (c .match .keys1)) ∙ turn .before .loop .inv
 
 returns-2 : tie.Need-returns-2 Inv-loop μ-loop
-returns-2 c = rest-too-low _ _ (c .before .before .before .loop-test .taken) (c .before .match .rest .1) (c .if1 .taken) ∙ c .before .before .before .before .loop .inv
+returns-2 c =
+    let turn : tie.In-loop Inv-loop μ-loop = search in
+    rest-too-low _ _ (turn .loop-test .taken) (c .before .match .rest .1) (c .if1 .taken) ∙ turn .before .loop .inv
 
 returns-3 : tie.Need-returns-3 Inv-loop μ-loop
-returns-3 c = rest-too-high _ _ (c .before .before .before .before .loop-test .taken) (c .if2 .left) ∙ c .before .before .before .before .before .loop .inv
+returns-3 c = let turn : tie.In-loop Inv-loop μ-loop = search in rest-too-high _ _ (turn .loop-test .taken) (c .if2 .left) ∙ turn .before .loop .inv
 
 loop-again : tie.Need-loop-again Inv-loop μ-loop
-loop-again c = rest-goes-on _ _ (c .before .before .before .before .loop-test .taken) (c .before .if1 .left) (c .if2 .taken) ∙ c .before .before .before .before .before .loop .inv
+loop-again c =
+    let turn : tie.In-loop Inv-loop μ-loop = search in
+    rest-goes-on _ _ (turn .loop-test .taken) (c .before .if1 .left) (c .if2 .taken) ∙ turn .before .loop .inv
 
 returns-4 : tie.Need-returns-4 Inv-loop μ-loop
 returns-4 c = rest-ends _ _ (line-ends _ _ (c .loop-test .left)) ∙ c .before .loop .inv

@@ -9,37 +9,41 @@ returns : tie.Need-returns
 returns c = no-field-at-end _ _ (c .if1 .taken)
 
 returns-2 : tie.Need-returns-2
-returns-2 c = no-field-without-gap _ _ (c .before .before .if1 .left) (c .if2 .taken)
+returns-2 c = let here : tie.Else1 = search in no-field-without-gap _ _ (here .if1 .left) (c .if2 .taken)
 
 returns-3 : tie.Need-returns-3
-returns-3 c = no-digit-at-end _ _ (c .before .before .before .if1 .left) (c .before .if2 .left) (c .if3 .taken)
+returns-3 c = let here : tie.Else1 = search in no-digit-at-end _ _ (here .if1 .left) (c .before .if2 .left) (c .if3 .taken)
 
 returns-4 : tie.Need-returns-4
 returns-4 c =
-    let else3 = c .before .before .before in
-    let else2 = else3 .before in
-    c .just-zero .ensures ∙ first-zero _ _ (else2 .before .before .if1 .left) (else2 .if2 .left) (else3 .if3 .left) (c .before .match .keys1)
+    let here : tie.Else1 = search in
+    let gap : tie.Else2 = search in
+    let more : tie.Else3 = search in
+    c .just-zero .ensures ∙ first-zero _ _ (here .if1 .left) (gap .if2 .left) (more .if3 .left) (c .before .match .keys1)
 
 returns-5 : tie.Need-returns-5
 returns-5 c =
-    let then5 = c .before in
-    let match = then5 .before .before in
-    let else3 = match .before .before in
-    let else2 = else3 .before in
-    let digits = first-digit _ _ (else2 .before .before .if1 .left) (else2 .if2 .left) (else3 .if3 .left) in
-    c .further-digits .ensures ∙ digits (match .match .rest .1) (then5 .before .if4 .left) (then5 .if5 .taken)
+    let here : tie.Else1 = search in
+    let gap : tie.Else2 = search in
+    let more : tie.Else3 = search in
+    let not-zero : tie.At-match-rest = search in
+    let digit = c .before in
+    let number = first-digit _ _ (here .if1 .left) (gap .if2 .left) (more .if3 .left) in
+    c .further-digits .ensures ∙ number (not-zero .match .rest .1) (digit .before .if4 .left) (digit .if5 .taken)
 
 returns-6 : tie.Need-returns-6
 returns-6 c =
-    let else3 = c .before .before .before in
-    let else2 = else3 .before in
-    no-first-digit _ _ (else2 .before .before .if1 .left) (else2 .if2 .left) (else3 .if3 .left) (below-digits _ (c .if4 .taken))
+    let here : tie.Else1 = search in
+    let gap : tie.Else2 = search in
+    let more : tie.Else3 = search in
+    no-first-digit _ _ (here .if1 .left) (gap .if2 .left) (more .if3 .left) (below-digits _ (c .if4 .taken))
 
 returns-7 : tie.Need-returns-7
 returns-7 c =
-    let else3 = c .before .before .before .before in
-    let else2 = else3 .before in
-    no-first-digit _ _ (else2 .before .before .if1 .left) (else2 .if2 .left) (else3 .if3 .left) (above-digits _ (c .if5 .left))
+    let here : tie.Else1 = search in
+    let gap : tie.Else2 = search in
+    let more : tie.Else3 = search in
+    no-first-digit _ _ (here .if1 .left) (gap .if2 .left) (more .if3 .left) (above-digits _ (c .if5 .left))
 
 pub read-field-spec : {M : Type 1} → statement M
 read-field-spec =

@@ -84,11 +84,10 @@ module _ (text : List ℕ) (first : ℕ) where
     unfolding every decimalFrom
     two-digits-read =
         let bounds = digit-bounds byte₂ d₂ in
+        let digits : every digit (byte₁ ∷ byte₂ ∷ []) ≡ true = both-true d₁ (both-true d₂ refl) in
         record {
           near = omega arith;
-          word =
-              λ e.
-              speed-word text first (first + 2) byte₁ (byte₂ ∷ []) (two-before e) (both-true d₁ (both-true d₂ refl)) (omega arith) (λ zero. omega arith) (omega arith) (omega arith);
+          word = λ e. speed-word text first (first + 2) byte₁ (byte₂ ∷ []) (two-before e) digits (omega arith) (λ zero. omega arith) (omega arith) (omega arith);
         }
 
     module _ (d₃ : digit byte₃ ≡ true) where

@@ -18,18 +18,21 @@ loop-holds c = all-left _ _ _ _
 
 returns : tie.Need-returns Inv-loop μ-loop
 returns c =
-    let turn = c .before .before .before in
-    left-malformed (turn .before .loop .inv) (turn .loop-test .taken) (sym (c .before .before .read-field .ensures) ∙ c .enum-told .given .1)
+    let turn : tie.In-loop Inv-loop μ-loop = search in
+    let read : tie.After-read-field Inv-loop μ-loop = search in
+    left-malformed (turn .before .loop .inv) (turn .loop-test .taken) (sym (read .read-field .ensures) ∙ c .enum-told .given .1)
 
 loop-again : tie.Need-loop-again Inv-loop μ-loop
 loop-again c =
-    let fence = c .before .before .before .value .given in
-    let read = c .before .before .before .before .before in
-    let turn = read .before in
+    let turn : tie.In-loop Inv-loop μ-loop = search in
+    let read : tie.After-read-field Inv-loop μ-loop = search in
+    let told : tie.After-value Inv-loop μ-loop = search in
+    let fence = told .value .given .0 .0 in
+    let test = c .before .fence-keeps in
     let at = turn .before .loop in
-    let goes = fence-goes (at .k) (at .before) (fence .0 .0) (c .before .fence-keeps .ensures) in
-    let left = fencesLeftKeep (at .k + 1) (fence .0 .0) in
-    left-goes-on (at .inv) (turn .loop-test .taken) (c .before .fence-keeps .result) left (sym (read .read-field .ensures) ∙ fence .1) (c .both .ensures) goes
+    let goes = fence-goes (at .k) (at .before) fence (test .ensures) in
+    let number = sym (read .read-field .ensures) ∙ told .value .given .1 in
+    left-goes-on (at .inv) (turn .loop-test .taken) (test .result) (fencesLeftKeep (at .k + 1) fence) number (c .both .ensures) goes
 
 returns-2 : tie.Need-returns-2 Inv-loop μ-loop
 returns-2 c =

@@ -18,17 +18,19 @@ loop-holds c = all-left _ _ _ _
 
 returns : tie.Need-returns Inv-loop μ-loop
 returns c =
-    let turn = c .before .before .before in
-    left-malformed (turn .before .loop .inv) (turn .loop-test .taken) (sym (c .before .before .read-field .ensures) ∙ c .enum-told .given .1)
+    let turn : tie.In-loop Inv-loop μ-loop = search in
+    let read : tie.After-read-field Inv-loop μ-loop = search in
+    left-malformed (turn .before .loop .inv) (turn .loop-test .taken) (sym (read .read-field .ensures) ∙ c .enum-told .given .1)
 
 loop-again : tie.Need-loop-again Inv-loop μ-loop
 unfolding every
 loop-again c =
-    let read = c .before .before .before .before in
-    let turn = read .before in
-    let speed = c .before .before .value .given in
-    let number = sym (read .read-field .ensures) ∙ speed .1 in
-    left-goes-on (turn .before .loop .inv) (turn .loop-test .taken) (speedKeeps (speed .0 .0)) (every speedKeeps) number (c .both .ensures) (λ speeds. refl)
+    let turn : tie.In-loop Inv-loop μ-loop = search in
+    let read : tie.After-read-field Inv-loop μ-loop = search in
+    let told : tie.After-value Inv-loop μ-loop = search in
+    let speed = told .value .given .0 .0 in
+    let number = sym (read .read-field .ensures) ∙ told .value .given .1 in
+    left-goes-on (turn .before .loop .inv) (turn .loop-test .taken) (speedKeeps speed) (every speedKeeps) number (c .both .ensures) (λ speeds. refl)
 
 returns-2 : tie.Need-returns-2 Inv-loop μ-loop
 unfolding every

@@ -13,39 +13,44 @@ use Rattle.number_rows.proofs.ShortSpeeds.{one-digit-read, two-digits-r
 use Rattle.number_rows.proofs.speeds.short_digits.Statement.{statement}
 use Rattle.number_rows.proofs.speeds.short_digits.Tie as tie
 
-returns : tie.Need-returns
-returns c =
-    let start = c .before .before .before .before in
-    one-digit-read _ _ (omega (arith, start .pre .0)) (digit-is _ (omega (arith, start .pre .1 .0)) (start .pre .1 .1))
+abbrev begun : tie.Else1 → tie.Start
+begun c = search
+
+abbrev two : tie.Else2 → tie.Else1
+two c = search
 
 abbrev digit-at : tie.Start → ℕ → Type 0
 digit-at start k = digit (getD (now (start .args .text)) (start .args .first + k) 0) ≡ true
 
-second : (c : tie.Else1) → digit-at (c .before .before .before .before) 1
+second : (c : tie.Else1) → digit-at (begun c) 1
 second c = sym (c .before .is-digit .ensures) ∙ not-false _ (c .if1 .left)
 
-third : (c : tie.Else2) → digit-at (c .before .before .before .before .before .before .before) 2
+third : (c : tie.Else2) → digit-at (begun (two c)) 2
 third c = sym (c .before .is-digit2 .ensures) ∙ not-false _ (c .if2 .left)
+
+returns : tie.Need-returns
+returns c =
+    let start : tie.Start = search in
+    one-digit-read _ _ (omega (arith, start .pre .0)) (digit-is _ (omega (arith, start .pre .1 .0)) (start .pre .1 .1))
 
 returns-2 : tie.Need-returns-2
 returns-2 c =
-    let else1 = c .before .before .before in
-    let start = else1 .before .before .before .before in
-    two-digits-read _ _ (start .pre .0) (start .pre .1 .0) (start .pre .1 .1) (second else1)
+    let two : tie.Else1 = search in
+    let (inside, (low, high)) = begun two .pre in
+    two-digits-read _ _ inside low high (second two)
 
 three-digits-requires : tie.Need-three-digits-requires
 three-digits-requires c κs =
-    let else2 = c .before .before .before in
-    let else1 = else2 .before .before .before in
-    let start = else1 .before .before .before .before in
-    three-are-digits (now (start .args .text)) (start .args .first) (start .pre .0) (start .pre .1 .0) (start .pre .1 .1) (second else1) (third else2)
+    let three : tie.Else2 = search in
+    let start = begun (two three) in
+    let (inside, (low, high)) = start .pre in
+    three-are-digits (now (start .args .text)) (start .args .first) inside low high (second (two three)) (third three)
 
 returns-4 : tie.Need-returns-4
 returns-4 c =
-    let else2 = c .before .before .before .before .before in
-    let else1 = else2 .before .before .before in
-    let start = else1 .before .before .before .before in
-    three-digits-read _ _ (start .pre .0) (start .pre .1 .0) (start .pre .1 .1) (second else1) (third else2) (omega (arith, c .before .three-digits .ensures))
+    let three : tie.Else2 = search in
+    let (inside, (low, high)) = begun (two three) .pre in
+    three-digits-read _ _ inside low high (second (two three)) (third three) (omega (arith, c .before .three-digits .ensures))
 
 pub short-digits-spec : {M : Type 1} → statement M
 short-digits-spec =

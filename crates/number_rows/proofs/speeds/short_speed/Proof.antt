@@ -9,10 +9,10 @@ use Rattle.number_rows.proofs.speeds.short_speed.Statement.{statement}
 use Rattle.number_rows.proofs.speeds.short_speed.Tie as tie
 
 returns-2 : tie.Need-returns-2
-returns-2 c = behind-gap _ _ (c .before .before .if1 .left) (To _) (one-digit-read _ _ (omega arith) (ap digit (c .match .keys1)))
+returns-2 c = let gap : tie.Else1 = search in behind-gap _ _ (gap .if1 .left) (To _) (one-digit-read _ _ (omega arith) (ap digit (c .match .keys1)))
 
 returns-3 : tie.Need-returns-3
-returns-3 c = behind-gap _ _ (c .before .before .before .before .before .if1 .left) (c .short-digits .result) (c .short-digits .ensures)
+returns-3 c = let gap : tie.Else1 = search in behind-gap _ _ (gap .if1 .left) (c .short-digits .result) (c .short-digits .ensures)
 
 pub short-speed-spec : {M : Type 1} → statement M
 short-speed-spec =

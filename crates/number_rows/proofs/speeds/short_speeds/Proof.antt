@@ -23,8 +23,8 @@ short-speed-requires c κs = omega arith
 
 loop-again : tie.Need-loop-again Inv-loop μ-loop
 loop-again c =
-    let read = c .before .before .before in
-    let turn = read .before in
+    let turn : tie.In-loop Inv-loop μ-loop = search in
+    let read : tie.After-short-speed Inv-loop μ-loop = search in
     let field = reached-at (ShortField _ _) (c .before .next .given .1) (read .short-speed .ensures) in
     (row-goes-on _ _ _ _ _ (turn .before .loop .inv .0) (omega arith) (turn .loop-test .taken) field, omega arith, omega (arith, field .digits .near))
 

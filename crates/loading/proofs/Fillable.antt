@@ -17,7 +17,8 @@ use Rattle.model.proofs.Rules.{true-both, kept-replies, replies-kept}
 use Rattle.model.proofs.Tests.{ltb-cases}
 use Rattle.townfile.specs.Bytes.{lineFeed, pieces}
 use Rattle.townfile.specs.Grammar.{Bytes, Each, joined}
-use Rattle.townfile.specs.Lines.{markTN, markFN, markAR, markOf, known, inTurn, markAlone, numbersOf, numbersKeep, formKeeps, endsDiffer, valuesKeep, lineRules, lineRead, lineAnswer}
+use Rattle.townfile.specs.Lines.{markTN, markFN, markAR, markOf, markAlone, numbersOf, lineRules, lineRead, lineAnswer}
+use Rattle.townfile.specs.Lines.{known, inTurn, numbersKeep, formKeeps, endsDiffer, valuesKeep}
 use Rattle.townfile.specs.FirstFault.{Reading, refusedAt, accepted, start, atEnd, onward, linesFrom, firstFault}
 use Rattle.townfile.specs.Tables.{marked}
 use Rattle.townfile.specs.Load.{Tables, countsOf, tooShort, loadAnswer}
@@ -80,9 +81,12 @@ module _ (p : Progress) (line : List ℕ) (keeps : LineKeeps p line) where
       let numbers = numbersOf line in
       let tail = getD numbers 0 0 in
       let head = getD numbers 1 0 in
-      let few = true-both (endsDiffer (p .junctions) tail head && lengthKeeps (getD numbers 2 0) && every speedKeeps (drop 3 numbers)) (ltb (p .arcs) maxArcs) (rw is at (keeps .values)) in
-      let speeds = true-both (endsDiffer (p .junctions) tail head && lengthKeeps (getD numbers 2 0)) (every speedKeeps (drop 3 numbers)) (few .0) in
-      let ends = true-both (ltb tail (p .junctions) && ltb head (p .junctions)) _ (true-both (endsDiffer (p .junctions) tail head) (lengthKeeps (getD numbers 2 0)) (speeds .0) .0) in
+      let differ = endsDiffer (p .junctions) tail head in
+      let metres = lengthKeeps (getD numbers 2 0) in
+      let slow = every speedKeeps (drop 3 numbers) in
+      let few = true-both (differ && metres && slow) (ltb (p .arcs) maxArcs) (rw is at (keeps .values)) in
+      let speeds = true-both (differ && metres) slow (few .0) in
+      let ends = true-both (ltb tail (p .junctions) && ltb head (p .junctions)) _ (true-both differ metres (speeds .0) .0) in
       let both = true-both (ltb tail (p .junctions)) (ltb head (p .junctions)) (ends .0) in
       record {
         alone = form .0;
@@ -186,7 +190,8 @@ accepted-fillable text bytes p e lent long =
     let same = described-town (found .1) in
     let kept = found .1 .kept .network-accepted in
     let room = found .2 in
-    let fills = lines-fill start p 1 (pieces lineFeed text) (λ h. absurd (omega arith)) (not-refused (ltb 65536 (length text)) 20 0 (linesFrom start 1 (pieces lineFeed text)) p e) in
+    let lines = pieces lineFeed text in
+    let fills = lines-fill start p 1 lines (λ h. absurd (omega arith)) (not-refused (ltb 65536 (length text)) 20 0 (linesFrom start 1 lines) p e) in
     record {
       lines-end = rw (found .1 .in-lines) (lines-end (found .1 .lines));
       fences-fill = fills .fences-fill;

@@ -162,10 +162,13 @@ module _ {intervals : ℕ} {allFences allArcs : List (List ℕ)} {before : Table
 
 -- ---- The text from a place on
 
--- The tables, with the lines from a place of the text on left of all.
+-- The tables, with lines of fences and of arcs left of all that the text has.
+abbrev FilledBut : ℕ → List ℕ → Tables → List (List ℕ) → List (List ℕ) → ℕ → ℕ → Tables → Type 0
+FilledBut intervals text before fences arcs fence arc lent = TablesFilled intervals (markedFrom markFN text 0) (markedFrom markAR text 0) before fences arcs fence arc lent
+
+-- Those left stand from a place of the text on.
 abbrev pub FilledFrom : ℕ → List ℕ → Tables → ℕ → ℕ → ℕ → Tables → Type 0
-FilledFrom intervals text before at fence arc lent =
-    TablesFilled intervals (markedFrom markFN text 0) (markedFrom markAR text 0) before (markedFrom markFN text at) (markedFrom markAR text at) fence arc lent
+FilledFrom intervals text before at fence arc lent = FilledBut intervals text before (markedFrom markFN text at) (markedFrom markAR text at) fence arc lent
 
 pub fillable-starts : {intervals : ℕ} {text fences tails heads lengths speeds : List ℕ} → Fillable intervals text fences tails heads lengths speeds →
     FilledFrom intervals text (tables fences tails heads lengths speeds) 0 0 0 (tables fences tails heads lengths speeds)
@@ -184,7 +187,7 @@ module _ {intervals : ℕ} (text : List ℕ) {before : Tables} (at : ℕ) {fence
   -- Where the lines left begin with one of fences.
   module _ (behind : BehindMark text at) (is : markOf (lineFrom text at) ≡ markFN) where
     fences-first : (next : ℕ) → next ≡ at + length (lineFrom text at) + 1 →
-        TablesFilled intervals (markedFrom markFN text 0) (markedFrom markAR text 0) before (lineFrom text at ∷ markedFrom markFN text next) (markedFrom markAR text next) fence arc lent
+        FilledBut intervals text before (lineFrom text at ∷ markedFrom markFN text next) (markedFrom markAR text next) fence arc lent
     fences-first next e =
         rw (this-marked markFN (λ z. omega arith) text at next e is, this-unmarked markAR (λ z. omega arith) text at next e (λ a. omega arith)) at filled
 
@@ -201,7 +204,7 @@ module _ {intervals : ℕ} (text : List ℕ) {before : Tables} (at : ℕ) {fence
   -- Where they begin with an arc.
   module _ (behind : BehindMark text at) (is : markOf (lineFrom text at) ≡ markAR) where
     arc-first : (next : ℕ) → next ≡ at + length (lineFrom text at) + 1 →
-        TablesFilled intervals (markedFrom markFN text 0) (markedFrom markAR text 0) before (markedFrom markFN text next) (lineFrom text at ∷ markedFrom markAR text next) fence arc lent
+        FilledBut intervals text before (markedFrom markFN text next) (lineFrom text at ∷ markedFrom markAR text next) fence arc lent
     arc-first next e =
         rw (this-marked markAR (λ z. omega arith) text at next e is, this-unmarked markFN (λ z. omega arith) text at next e (λ a. omega arith)) at filled
 
@@ -228,7 +231,8 @@ module _ {intervals : ℕ} (text : List ℕ) {before : Tables} (at : ℕ) {fence
       rw (this-unmarked markFN (λ z. omega arith) text at next e no-fences, this-unmarked markAR (λ z. omega arith) text at next e no-arc) at filled
 
   -- Where none is left.
-  pub filled-whole : length text ≤ at → Fillable intervals text (before .fences) (before .tails) (before .heads) (before .lengths) (before .speeds) → lent ≡ holding (networkOf (townOf text)) before
+  pub filled-whole : length text ≤ at → Fillable intervals text (before .fences) (before .tails) (before .heads) (before .lengths) (before .speeds) →
+      lent ≡ holding (networkOf (townOf text)) before
   unfolding townOf flatten
   filled-whole past fillable =
       let no-fences = none-left markFN (λ z. omega arith) text at past in

@@ -32,7 +32,8 @@ module _ (mark : ℕ) (some : mark ≡ 0 → ⊥) (text : List ℕ) where
       | inr past ↦ ap (marked mark) (last-line text at (past .1)) ∙ this [] ∙ ap first (sym (none-left (at + length (lineFrom text at) + 1) (omega (arith, past .1))))
     ]
 
-    pub this-marked : (next : ℕ) → next ≡ at + length (lineFrom text at) + 1 → markOf (lineFrom text at) ≡ mark → markedFrom mark text at ≡ lineFrom text at ∷ markedFrom mark text next
+    pub this-marked : (next : ℕ) → next ≡ at + length (lineFrom text at) + 1 → markOf (lineFrom text at) ≡ mark →
+        markedFrom mark text at ≡ lineFrom text at ∷ markedFrom mark text next
     unfolding marked
     this-marked next e is = behind-line (λ lines. lineFrom text at ∷ lines) (λ lines. rw (eq-eqb (markOf (lineFrom text at)) mark is)) ∙ rw e
 

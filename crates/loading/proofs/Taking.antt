@@ -136,7 +136,8 @@ pub arc-starts : {intervals : ℕ} {text : List ℕ} {at : ℕ} → ArcFills int
 arc-starts {intervals} fills = let three : 3 + intervals ≡ suc (suc (suc intervals)) = omega arith in rw three at (fills .numbers-fill)
 
 pub arc-taken : (intervals : ℕ) (text : List ℕ) (at : ℕ) (tail head metres : NumberTaken) →
-    Taking text at (suc (suc intervals)) tail → Taking text (tail .next) (suc intervals) head → Taking text (head .next) intervals metres → ArcTaken intervals text at tail head metres
+    Taking text at (suc (suc intervals)) tail → Taking text (tail .next) (suc intervals) head → Taking text (head .next) intervals metres →
+    ArcTaken intervals text at tail head metres
 arc-taken intervals text at tail head metres first second third =
     let numbers : numbersFrom text at ≡ tail .value ∷ head .value ∷ metres .value ∷ numbersFrom text (metres .next) = rw (first .number, second .number, third .number) in
     record {

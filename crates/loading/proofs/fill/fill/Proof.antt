@@ -24,121 +24,141 @@ Inv-loop text intervals fences₀ tails₀ heads₀ lengths₀ speeds₀ at₀ f
 abbrev μ-loop : tie.MeasureT-loop
 μ-loop text intervals fences₀ tails₀ heads₀ lengths₀ speeds₀ at₀ fence₀ arc₀ fences tails heads lengths speeds at fence arc = length text - at
 
--- the function's start, from the loop, and the line that a turn begins with
-abbrev entry : tie.At-loop Inv-loop μ-loop → tie.Start Inv-loop μ-loop
-entry c = c .before .before .before .before .before .before .before
-
-abbrev line : tie.At-loop Inv-loop μ-loop → List ℕ
-line c = lineFrom (now (entry c .args .text)) (c .loop .at)
-
 loop-holds : tie.Need-loop-holds Inv-loop μ-loop
-loop-holds c = fillable-starts (c .before .before .before .before .before .before .pre)
+loop-holds c = let start : tie.Start Inv-loop μ-loop = search in fillable-starts (start .pre)
 
-mark-behind : (c : tie.At-loop Inv-loop μ-loop) → known (markOf (line c)) ≡ true → BehindMark (now (entry c .args .text)) (c .loop .at)
-mark-behind c = behind-mark _ _ (c .before .before .before .before .before .before .shared-slice-known .given (c .loop .at + 1) .fits)
+-- ---- A turn, once the line's mark is read
 
--- the place behind a line feed fits
-next-fits : (c : tie.At-loop Inv-loop μ-loop) (at : ℕ) → at ≤ length (now (entry c .args .text)) → at + length (lineFrom (now (entry c .args .text)) at) + 1 < 18446744073709551616
-next-fits c at inside = omega (arith, line-inside (now (entry c .args .text)) at)
+module _ (c : tie.After-mark-at Inv-loop μ-loop) where
+  abbrev begun : tie.Start Inv-loop μ-loop
+  begun = search
 
--- the line ends before the text
-ends : (c : tie.In-loop Inv-loop μ-loop) → EndsInside (now (entry (c .before) .args .text)) (c .before .loop .at)
-ends c = entry (c .before) .pre .lines-end (c .before .loop .at) (c .loop-test .taken)
+  abbrev turn : tie.At-loop Inv-loop μ-loop
+  turn = search
 
--- the mark is the line's
-marks : (c : tie.After-mark-at Inv-loop μ-loop) {mark : ℕ} → c .mark-at .result ≡ mark → markOf (line (c .before .before)) ≡ mark
-marks c e = sym (c .mark-at .ensures) ∙ e
+  abbrev text : List ℕ
+  text = now (begun .args .text)
+
+  abbrev at : ℕ
+  at = turn .loop .at
+
+  abbrev line : List ℕ
+  line = lineFrom text at
+
+  -- the mark is the line's
+  marks : {mark : ℕ} → c .mark-at .result ≡ mark → markOf line ≡ mark
+  marks e = sym (c .mark-at .ensures) ∙ e
+
+  behind : known (markOf line) ≡ true → BehindMark text at
+  behind = let bytes : tie.After-shared-slice-known Inv-loop μ-loop = search in behind-mark _ _ (bytes .shared-slice-known .given (at + 1) .fits)
+
+  -- the line ends before the text
+  ends : EndsInside text at
+  ends = begun .pre .lines-end at (c .before .loop-test .taken)
+
+  -- the place behind a line feed fits
+  next-fits : (i : ℕ) → i ≤ length text → i + length (lineFrom text i) + 1 < 18446744073709551616
+  next-fits i inside = omega (arith, line-inside text i)
 
 -- ---- A line of fences
 
 module _ (c : tie.At-match-keys1 Inv-loop μ-loop) where
-  is-fences : markOf (line (c .before .before .before)) ≡ markFN
+  is-fences : markOf (line (c .before)) ≡ markFN
   is-fences = marks (c .before) (c .match .keys1)
 
-  behind-fences : BehindMark (now (entry (c .before .before .before) .args .text)) (c .before .before .before .loop .at)
-  behind-fences = mark-behind (c .before .before .before) (rw is-fences)
+  behind-fences : BehindMark (text (c .before)) (at (c .before))
+  behind-fences = behind (c .before) (rw is-fences)
 
 add-fill-fences : tie.Need-add-fill-fences Inv-loop μ-loop
 add-fill-fences c = record { fits = omega (arith, behind-fences c .inside) }
 
 fill-fences-requires : tie.Need-fill-fences-requires Inv-loop μ-loop
-fill-fences-requires c κs = fences-asked _ _ (c .before .before .before .before .loop .inv) (behind-fences (c .before)) (is-fences (c .before)) (ends (c .before .before .before))
+fill-fences-requires c κs =
+    let read = c .before in
+    fences-asked _ _ (turn (read .before) .loop .inv) (behind-fences read) (is-fences read) (ends (read .before))
 
 add-at : tie.Need-add-at Inv-loop μ-loop
 add-at c =
-    let turn = c .before .before .before .before in
-    record { fits = omega (arith, c .before .before .fill-fences .ensures .0, next-fits (turn .before .before .before) _ (behind-fences turn .inside)) }
+    let read : tie.At-match-keys1 Inv-loop μ-loop = search in
+    let filled : tie.After-fill-fences Inv-loop μ-loop = search in
+    record { fits = omega (arith, filled .fill-fences .ensures .0, next-fits (read .before) _ (behind-fences read .inside)) }
 
 add-fence : tie.Need-add-fence Inv-loop μ-loop
 add-fence c =
-    let turn = c .before .before .before .before in
-    record { fits = omega (arith, fences-asked _ _ (turn .before .before .before .loop .inv) (behind-fences turn) (is-fences turn) (ends (turn .before .before)) .1) }
+    let read : tie.At-match-keys1 Inv-loop μ-loop = search in
+    record { fits = omega (arith, fences-asked _ _ (turn (read .before) .loop .inv) (behind-fences read) (is-fences read) (ends (read .before)) .1) }
 
 loop-less : tie.Need-loop-less Inv-loop μ-loop
-loop-less c = omega (arith, c .before .before .before .before .before .before .loop-test .taken, c .before .before .fill-fences .ensures .0)
+loop-less c =
+    let turn : tie.In-loop Inv-loop μ-loop = search in
+    let filled : tie.After-fill-fences Inv-loop μ-loop = search in
+    omega (arith, turn .loop-test .taken, filled .fill-fences .ensures .0)
 
 loop-again : tie.Need-loop-again Inv-loop μ-loop
 loop-again c =
-    let turn = c .before .before .before .before in
-    let call = c .before .before .fill-fences in
-    fences-next _ _ (turn .before .before .before .loop .inv) (behind-fences turn) (is-fences turn) _ (ap (λ end. end + 1) (call .ensures .0)) _ (call .ensures .1)
+    let read : tie.At-match-keys1 Inv-loop μ-loop = search in
+    let filled : tie.After-fill-fences Inv-loop μ-loop = search in
+    let (end, fences) = filled .fill-fences .ensures in
+    fences-next _ _ (turn (read .before) .loop .inv) (behind-fences read) (is-fences read) _ (ap (λ end. end + 1) end) _ fences
 
 -- ---- An arc
 
 module _ (c : tie.At-match-keys2 Inv-loop μ-loop) where
-  is-arc : markOf (line (c .before .before .before)) ≡ markAR
+  is-arc : markOf (line (c .before)) ≡ markAR
   is-arc = marks (c .before) (c .match .keys2)
 
-  behind-arc : BehindMark (now (entry (c .before .before .before) .args .text)) (c .before .before .before .loop .at)
-  behind-arc = mark-behind (c .before .before .before) (rw is-arc)
+  behind-arc : BehindMark (text (c .before)) (at (c .before))
+  behind-arc = behind (c .before) (rw is-arc)
 
 add-fill-arc : tie.Need-add-fill-arc Inv-loop μ-loop
 add-fill-arc c = record { fits = omega (arith, behind-arc c .inside) }
 
 fill-arc-requires : tie.Need-fill-arc-requires Inv-loop μ-loop
 fill-arc-requires c κs =
-    let turn = c .before .before .before .before in
-    arc-asked _ _ (turn .before .before .before .loop .inv) (behind-arc turn) (is-arc turn) (ends (turn .before .before))
+    let read : tie.At-match-keys2 Inv-loop μ-loop = search in
+    arc-asked _ _ (turn (read .before) .loop .inv) (behind-arc read) (is-arc read) (ends (read .before))
 
 add-at-2 : tie.Need-add-at-2 Inv-loop μ-loop
 add-at-2 c =
-    let filled = c .before .before .before .before .before .before .before .before in
-    let turn = filled .before .before .before .before .before in
-    record { fits = omega (arith, filled .fill-arc .ensures .0, next-fits (turn .before .before .before) _ (behind-arc turn .inside)) }
+    let read : tie.At-match-keys2 Inv-loop μ-loop = search in
+    let filled : tie.After-fill-arc Inv-loop μ-loop = search in
+    record { fits = omega (arith, filled .fill-arc .ensures .0, next-fits (read .before) _ (behind-arc read .inside)) }
 
 add-arc : tie.Need-add-arc Inv-loop μ-loop
 add-arc c =
-    let turn = c .before .before .before .before .before .before .before .before .before .before .before .before .before in
-    record { fits = omega (arith, arc-asked _ _ (turn .before .before .before .loop .inv) (behind-arc turn) (is-arc turn) (ends (turn .before .before)) .1 .0) }
+    let read : tie.At-match-keys2 Inv-loop μ-loop = search in
+    record { fits = omega (arith, arc-asked _ _ (turn (read .before) .loop .inv) (behind-arc read) (is-arc read) (ends (read .before)) .1 .0) }
 
 loop-less-2 : tie.Need-loop-less-2 Inv-loop μ-loop
 loop-less-2 c =
-    let filled = c .before .before .before .before .before .before .before .before in
-    omega (arith, filled .before .before .before .before .before .before .before .loop-test .taken, filled .fill-arc .ensures .0)
+    let turn : tie.In-loop Inv-loop μ-loop = search in
+    let filled : tie.After-fill-arc Inv-loop μ-loop = search in
+    omega (arith, turn .loop-test .taken, filled .fill-arc .ensures .0)
 
 loop-again-2 : tie.Need-loop-again-2 Inv-loop μ-loop
 loop-again-2 c =
-    let filled = c .before .before .before .before .before .before .before .before in
-    let turn = filled .before .before .before .before .before in
-    let call = filled .fill-arc .ensures in
-    arc-next _ _ (turn .before .before .before .loop .inv) (behind-arc turn) (is-arc turn) _ (ap (λ end. end + 1) (call .0)) _ _ _ _ (call .1 .0) (call .1 .1 .0) (call .1 .1 .1 .0) (call .1 .1 .1 .1)
+    let read : tie.At-match-keys2 Inv-loop μ-loop = search in
+    let filled : tie.After-fill-arc Inv-loop μ-loop = search in
+    let (end, (tails, (heads, (lengths, speeds)))) = filled .fill-arc .ensures in
+    arc-next _ _ (turn (read .before) .loop .inv) (behind-arc read) (is-arc read) _ (ap (λ end. end + 1) end) _ _ _ _ tails heads lengths speeds
 
 -- ---- Another line
 
 add-at-3 : tie.Need-add-at-3 Inv-loop μ-loop
-add-at-3 c = let turn = c .before .before .before in record { fits = omega (arith, c .line-end .ensures, next-fits (turn .before) (turn .before .loop .at) (omega arith)) }
+add-at-3 c = let read = c .before .before in record { fits = omega (arith, c .line-end .ensures, next-fits read (at read) (omega arith)) }
 
 loop-less-3 : tie.Need-loop-less-3 Inv-loop μ-loop
-loop-less-3 c = omega (arith, c .before .before .before .loop-test .taken, c .line-end .ensures)
+loop-less-3 c = let turn : tie.In-loop Inv-loop μ-loop = search in omega (arith, turn .loop-test .taken, c .line-end .ensures)
 
 loop-again-3 : tie.Need-loop-again-3 Inv-loop μ-loop
 loop-again-3 c =
-    let marked = c .before .before in
-    let other = c .before .match .rest in
-    other-next _ _ (marked .before .before .loop .inv) (λ e. other .0 .1 (marked .mark-at .ensures ∙ e)) (λ e. other .1 (marked .mark-at .ensures ∙ e)) _ (ap (λ end. end + 1) (c .line-end .ensures))
+    let read = c .before .before in
+    let ((_, no-fences), no-arc) = c .before .match .rest in
+    let is = read .mark-at .ensures in
+    other-next _ _ (turn read .loop .inv) (λ e. no-fences (is ∙ e)) (λ e. no-arc (is ∙ e)) _ (ap (λ end. end + 1) (c .line-end .ensures))
 
 returns : tie.Need-returns Inv-loop μ-loop
-returns c = filled-whole _ _ (c .before .loop .inv) (c .loop-test .left) (entry (c .before) .pre)
+returns c = let start : tie.Start Inv-loop μ-loop = search in filled-whole _ _ (c .before .loop .inv) (c .loop-test .left) (start .pre)
 
 pub fill-spec : {M : Type 1} → statement M
 fill-spec =

@@ -19,7 +19,7 @@ take-number-requires : tie.Need-take-number-requires Inv-loop μ-loop
 take-number-requires c κs = next-asked (c .before .loop .inv) (c .loop-test .taken)
 
 slice-write-fences : tie.Need-slice-write-fences Inv-loop μ-loop
-slice-write-fences c = omega (arith, c .before .before .loop .inv .same-length, c .before .before .before .before .before .pre .1)
+slice-write-fences c = let start : tie.Start Inv-loop μ-loop = search in omega (arith, c .before .before .loop .inv .same-length, start .pre .1)
 
 loop-again : tie.Need-loop-again Inv-loop μ-loop
 loop-again c = one-stored (c .before .before .loop .inv) (c .before .loop-test .taken) _ (c .take-number .ensures)

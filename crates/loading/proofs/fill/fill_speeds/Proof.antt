@@ -22,9 +22,12 @@ loop-holds c = (none-stored _ _ _ _ _ (c .before .before .pre .0), c .before .be
 take-number-requires : tie.Need-take-number-requires Inv-loop μ-loop
 take-number-requires c κs = next-asked (c .before .loop .inv .0) (c .loop-test .taken)
 
+abbrev begun : tie.After-struct-known Inv-loop μ-loop → tie.Start Inv-loop μ-loop
+begun c = search
+
 -- the number is a speed, and so are those behind it
 speed : (c : tie.After-struct-known Inv-loop μ-loop) → let taken = c .before .take-number .result in
-    (taken .value ≤ 200) × (every speedKeeps (numbersFrom (c .before .before .before .before .before .before .args .text .now) (taken .next)) ≡ true)
+    (taken .value ≤ 200) × (every speedKeeps (numbersFrom (begun c .args .text .now) (taken .next)) ≡ true)
 speed c =
     let turn = c .before .before in
     first-within (next-taking (turn .before .loop .inv .0) (turn .loop-test .taken) _ (c .before .take-number .ensures)) (turn .before .loop .inv .1)
@@ -33,7 +36,7 @@ cast-speeds : tie.Need-cast-speeds Inv-loop μ-loop
 cast-speeds c = record { fits = omega (arith, speed c .0) }
 
 slice-write-speeds : tie.Need-slice-write-speeds Inv-loop μ-loop
-slice-write-speeds c = let at-loop = c .before .before .before in omega (arith, at-loop .loop .inv .0 .same-length, at-loop .before .before .before .pre .1 .1)
+slice-write-speeds c = let turn : tie.At-loop Inv-loop μ-loop = search in omega (arith, turn .loop .inv .0 .same-length, begun c .pre .1 .1)
 
 loop-again : tie.Need-loop-again Inv-loop μ-loop
 loop-again c = let turn = c .before .before in (one-stored (turn .before .loop .inv .0) (turn .loop-test .taken) _ (c .before .take-number .ensures), speed c .1)

@@ -14,34 +14,37 @@ abbrev μ-loop : tie.MeasureT-loop
 μ-loop text at first value₀ i₀ value i = length text - i
 
 -- the first digit is taken
-begun : (c : tie.Start Inv-loop μ-loop) → DigitsTaken (now (c .args .text)) (c .args .at) (c .args .at + 2) (getD (now (c .args .text)) (c .args .at + 1) 0 - 48)
-begun c = first-taken _ _ (c .pre .0) (c .pre .1)
+one-taken : (c : tie.Start Inv-loop μ-loop) → DigitsTaken (now (c .args .text)) (c .args .at) (c .args .at + 2) (getD (now (c .args .text)) (c .args .at + 1) 0 - 48)
+one-taken c = first-taken _ _ (c .pre .0) (c .pre .1)
 
 add-first : tie.Need-add-first Inv-loop μ-loop
-add-first c = record { fits = omega (arith, begun c .same-end, begun c .inside) }
+add-first c = record { fits = omega (arith, one-taken c .same-end, one-taken c .inside) }
 
 shared-slice-read-first : tie.Need-shared-slice-read-first Inv-loop μ-loop
-shared-slice-read-first c = omega (arith, begun (c .before) .same-end, begun (c .before) .inside)
+shared-slice-read-first c = omega (arith, one-taken (c .before) .same-end, one-taken (c .before) .inside)
 
 sub-value : tie.Need-sub-value Inv-loop μ-loop
 sub-value c = first-is-digit _ _ (c .before .pre .0) (c .before .pre .1) .0
 
 cast-value : tie.Need-cast-value Inv-loop μ-loop
-cast-value c = record { fits = omega (arith, value-below (begun (c .before))) }
+cast-value c = record { fits = omega (arith, value-below (one-taken (c .before))) }
 
 add-i : tie.Need-add-i Inv-loop μ-loop
-add-i c = record { fits = omega (arith, begun (c .before) .same-end, begun (c .before) .inside) }
+add-i c = record { fits = omega (arith, one-taken (c .before) .same-end, one-taken (c .before) .inside) }
 
 loop-holds : tie.Need-loop-holds Inv-loop μ-loop
-loop-holds c = begun (c .before)
+loop-holds c = one-taken (c .before)
 
 shared-slice-read-byte : tie.Need-shared-slice-read-byte Inv-loop μ-loop
 shared-slice-read-byte c = omega arith
 
+abbrev turn : tie.Then2 Inv-loop μ-loop → tie.At-loop Inv-loop μ-loop
+turn c = search
+
 -- the byte is a digit, and taken
-took : (c : tie.Then2 Inv-loop μ-loop) → let turn = c .before .before .before in let text = now (turn .before .before .args .text) in
-    DigitsTaken text (turn .before .before .args .at) (turn .loop .i + 1) (turn .loop .value * 10 + (getD text (turn .loop .i) 0 - 48))
-took c = digit-taken (c .before .before .before .loop .inv) (c .before .if1 .left) (c .if2 .taken)
+took : (c : tie.Then2 Inv-loop μ-loop) → let args = turn c .before .before .args in let text = now (args .text) in let so-far = turn c .loop in
+    DigitsTaken text (args .at) (so-far .i + 1) (so-far .value * 10 + (getD text (so-far .i) 0 - 48))
+took c = digit-taken (turn c .loop .inv) (c .before .if1 .left) (c .if2 .taken)
 
 mul-value : tie.Need-mul-value Inv-loop μ-loop
 mul-value c = record { fits = omega (arith, value-below (took c)) }
@@ -53,10 +56,10 @@ add-value : tie.Need-add-value Inv-loop μ-loop
 add-value c = record { fits = omega (arith, value-below (took c)) }
 
 returns : tie.Need-returns Inv-loop μ-loop
-returns c = digits-end (c .before .before .loop .inv) (λ digit. omega (arith, c .if1 .taken, digit .0))
+returns c = let turn : tie.At-loop Inv-loop μ-loop = search in digits-end (turn .loop .inv) (λ digit. omega (arith, c .if1 .taken, digit .0))
 
 returns-2 : tie.Need-returns-2 Inv-loop μ-loop
-returns-2 c = digits-end (c .before .before .before .loop .inv) (λ digit. omega (arith, c .if2 .left, digit .1))
+returns-2 c = let turn : tie.At-loop Inv-loop μ-loop = search in digits-end (turn .loop .inv) (λ digit. omega (arith, c .if2 .left, digit .1))
 
 add-i-2 : tie.Need-add-i-2 Inv-loop μ-loop
 add-i-2 c = record { fits = omega arith }

@@ -5,7 +5,7 @@ use Rattle.loading.proofs.load.lacks_room.Statement.{statement}
 use Rattle.loading.proofs.load.lacks_room.Tie as tie
 
 mul-exceeds : tie.Need-mul-exceeds
-mul-exceeds c = let start = c .before .before .before .before .before .before .before in product-fits (start .fits .arcs) (start .fits .intervals)
+mul-exceeds c = let start : tie.Start = search in product-fits (start .fits .arcs) (start .fits .intervals)
 
 returns : tie.Need-returns
 returns c = cc

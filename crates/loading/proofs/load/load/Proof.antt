@@ -6,6 +6,7 @@ use denote.Ref.{now}
 use Rattle.townfile.specs.Grammar.{Bytes}
 use Rattle.townfile.specs.FirstFault.{accepted, firstFault}
 use Rattle.townfile.specs.Load.{Tables, tables, countsOf, tooShort}
+use Rattle.townfile.specs.declared.progress.Progress.{Progress}
 use Rattle.scanning.specs.Scans.{readingOf}
 use Rattle.loading.proofs.Fillable.{accepted-fillable}
 use Rattle.loading.proofs.Loaded.{load-refused, load-short, load-filled}
@@ -15,22 +16,26 @@ use Rattle.loading.proofs.load.load.Tie as tie
 abbrev lent : tie.Start → Tables
 lent s = tables (now (s .args .fences)) (now (s .args .tails)) (now (s .args .heads)) (now (s .args .lengths)) (now (s .args .speeds))
 
-abbrev start : tie.After-scan → tie.Start
-start c = c .before .before .before .before .before .before .before
+-- ---- Where the scan finds no fault
 
 abbrev begun : tie.After-known-told2 → tie.Start
-begun c = start (c .before .before .before)
+begun c = search
+
+abbrev reached : tie.After-known-told2 → Progress
+reached c = c .before .progress .given .0 .0
 
 -- the text has no fault
-read : (c : tie.After-known-told2) → accepted (c .before .progress .given .0 .0) ≡ firstFault (now (begun c .args .text))
-read c = ap readingOf (sym (c .before .progress .given .1)) ∙ c .before .before .before .scan .ensures
+read : (c : tie.After-known-told2) → accepted (reached c) ≡ firstFault (now (begun c .args .text))
+read c = let called : tie.After-scan = search in ap readingOf (sym (c .before .progress .given .1)) ∙ called .scan .ensures
 
 bytes : (c : tie.After-known-told2) → Bytes (now (begun c .args .text))
-bytes c i h = c .before .before .before .before .before .before .before .before .before .shared-slice-known .given i .fits
+bytes c i h = let text : tie.After-shared-slice-known = search in text .shared-slice-known .given i .fits
 
 -- the tables have room
-long : (c : tie.Else1) → tooShort (countsOf (c .before .before .before .progress .given .0 .0)) (lent (begun (c .before .before))) ≡ false
+long : (c : tie.Else1) → tooShort (countsOf (reached (c .before .before))) (lent (begun (c .before .before))) ≡ false
 long c = sym (c .before .lacks-room .ensures) ∙ c .if1 .left
+
+-- ---- The answers
 
 returns : tie.Need-returns
 returns c =
@@ -39,21 +44,23 @@ returns c =
 
 fill-requires : tie.Need-fill-requires
 fill-requires c κs =
-    let enough = c .before .before .before .before .before .before in
-    let told = enough .before .before in
+    let told : tie.After-known-told2 = search in
+    let enough : tie.Else1 = search in
     accepted-fillable _ (bytes told) _ (sym (read told)) (lent (begun told)) (long enough)
 
 returns-2 : tie.Need-returns-2
 returns-2 c =
-    let scanned = c .before .before .before in
-    load-refused _ (lent (start scanned)) (ap readingOf (sym (c .before .refusal .given .1)) ∙ scanned .scan .ensures)
+    let start : tie.Start = search in
+    let called : tie.After-scan = search in
+    load-refused _ (lent start) (ap readingOf (sym (c .before .refusal .given .1)) ∙ called .scan .ensures)
 
 returns-3 : tie.Need-returns-3
 returns-3 c =
-    let filled = c .before .before .before .before .before .before .before .before .before .before in
-    let enough = filled .before .before .before .before .before .before .before in
-    let ends = load-filled _ (lent (begun (enough .before .before))) (read (enough .before .before)) (long enough) in
-    (ends .0, filled .fill .ensures ∙ ends .1)
+    let told : tie.After-known-told2 = search in
+    let enough : tie.Else1 = search in
+    let filled : tie.After-fill = search in
+    let (answer, tables) = load-filled _ (lent (begun told)) (read told) (long enough) in
+    (answer, filled .fill .ensures ∙ tables)
 
 pub load-spec : {M : Type 1} → statement M
 load-spec =

@@ -174,7 +174,8 @@ module _ {text : List ℕ} {junction at : ℕ} (left : NamesLeft text junction a
       begins : length (numberField (lineFrom text at)) + 4 < length (lineFrom text at)
       begins =
           let line : List ℕ = lineFrom text at in
-          name-begins text at line-named (eqb-true (markOf line) markJN (true-both (eqb (markOf line) markJN) (eqb (decimal (numberField line)) junction) (start-at text at junction e .0) .0))
+          let has-mark = true-both (eqb (markOf line) markJN) (eqb (decimal (numberField line)) junction) (start-at text at junction e .0) .0 in
+          name-begins text at line-named (eqb-true (markOf line) markJN has-mark)
 
       pub starts-inside : from ≤ end
       starts-inside = omega (arith, start-at text at junction e .1, begins)

@@ -24,35 +24,43 @@ loop-holds c = all-left _ _ (c .before .pre)
 name-start-requires : tie.Need-name-start-requires Inv-loop μ-loop
 name-start-requires c κs = line-named (c .before .before .loop .inv)
 
+abbrev begun : tie.After-known-told Inv-loop μ-loop → tie.Start Inv-loop μ-loop
+begun c = search
+
+abbrev turn : tie.After-known-told Inv-loop μ-loop → tie.At-loop Inv-loop μ-loop
+turn c = search
+
 -- the line names the junction
 begins : (c : tie.After-known-told Inv-loop μ-loop) →
-    let turn = c .before .before .before .before .before .before in
-    nameStart (now (turn .before .before .args .text)) (turn .loop .at) (turn .before .before .args .junction)
-    ≡ At (c .before .start .given .0 .0)
-begins c = sym (c .before .before .before .name-start .ensures) ∙ c .before .start .given .1
+    nameStart (now (begun c .args .text)) (turn c .loop .at) (begun c .args .junction) ≡ At (c .before .start .given .0 .0)
+begins c = let asked : tie.After-name-start Inv-loop μ-loop = search in sym (asked .name-start .ensures) ∙ c .before .start .given .1
 
 sub-t9 : tie.Need-sub-t9 Inv-loop μ-loop
 sub-t9 c =
-    let turn = c .before .before .before in
-    omega (arith, starts-inside (turn .before .before .before .loop .inv) (turn .before .line-end .ensures) (begins c))
+    let ended : tie.After-line-end Inv-loop μ-loop = search in
+    omega (arith, starts-inside (turn c .loop .inv) (ended .line-end .ensures) (begins c))
 
 returns : tie.Need-returns Inv-loop μ-loop
 returns c =
-    let turn = c .before .before .before in
-    name-found (turn .before .before .before .loop .inv) (turn .before .line-end .ensures) (begins c)
+    let ended : tie.After-line-end Inv-loop μ-loop = search in
+    name-found (turn c .loop .inv) (ended .line-end .ensures) (begins c)
 
 add-at : tie.Need-add-at Inv-loop μ-loop
 add-at c =
-    let turn = c .before .before .before .before .before in
-    omega (arith, c .before .before .before .line-end .ensures, line-inside (now (turn .before .before .args .text)) (turn .loop .at))
+    let start : tie.Start Inv-loop μ-loop = search in
+    let turn : tie.At-loop Inv-loop μ-loop = search in
+    let ended : tie.After-line-end Inv-loop μ-loop = search in
+    omega (arith, ended .line-end .ensures, line-inside (now (start .args .text)) (turn .loop .at))
 
 loop-less : tie.Need-loop-less Inv-loop μ-loop
-loop-less c = omega (arith, c .before .before .before .line-end .ensures)
+loop-less c = let ended : tie.After-line-end Inv-loop μ-loop = search in omega (arith, ended .line-end .ensures)
 
 loop-again : tie.Need-loop-again Inv-loop μ-loop
 loop-again c =
-    let turn = c .before .before in
-    line-passed (turn .before .before .before .loop .inv) (turn .before .line-end .ensures) (sym (turn .name-start .ensures) ∙ c .enum-told .given .1)
+    let turn : tie.At-loop Inv-loop μ-loop = search in
+    let ended : tie.After-line-end Inv-loop μ-loop = search in
+    let asked = c .before .before in
+    line-passed (turn .loop .inv) (ended .line-end .ensures) (sym (asked .name-start .ensures) ∙ c .enum-told .given .1)
 
 returns-2 : tie.Need-returns-2 Inv-loop μ-loop
 returns-2 c = none-left (c .before .loop .inv) (c .loop-test .left)

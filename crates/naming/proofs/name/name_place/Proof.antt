@@ -11,8 +11,11 @@ use Rattle.naming.proofs.name.name_place.Tie as tie
 returns : tie.Need-returns
 returns c = refused-nowhere _ _ (sym (ap readingOf (c .enum-told .given .1)) ∙ c .before .before .scan .ensures)
 
+abbrev begun : tie.After-enum-told2 → tie.Start
+begun c = search
+
 -- the text has no fault
-faultless : (c : tie.After-enum-told2) → accepted (c .enum-told2 .given .0 .0) ≡ firstFault (now (c .before .before .before .before .args .text))
+faultless : (c : tie.After-enum-told2) → accepted (c .enum-told2 .given .0 .0) ≡ firstFault (now (begun c .args .text))
 faultless c = sym (ap readingOf (c .enum-told2 .given .1)) ∙ c .before .before .scan .ensures
 
 find-name-requires : tie.Need-find-name-requires

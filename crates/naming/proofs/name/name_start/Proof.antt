@@ -15,35 +15,46 @@ use Rattle.naming.proofs.name.name_start.Tie as tie
 returns : tie.Need-returns
 returns c = other-mark _ _ _ (λ is. c .if1 .taken (c .before .mark-at .ensures ∙ is))
 
--- the line has the mark
-marked : (c : tie.Else1) → markOf (lineFrom (now (c .before .before .before .args .text)) (c .before .before .before .args .at)) ≡ markJN
+-- ---- A line with the mark
+
+abbrev begun : tie.Else1 → tie.Start
+begun c = search
+
+marked : (c : tie.Else1) → markOf (lineFrom (now (begun c .args .text)) (begun c .args .at)) ≡ markJN
 marked c = sym (c .before .mark-at .ensures) ∙ c .if1 .left
 
 add-read-field : tie.Need-add-read-field
-add-read-field c = omega (arith, name-begins _ _ (c .before .before .before .pre) (marked c), line-inside (now (c .before .before .before .args .text)) (c .before .before .before .args .at))
+add-read-field c =
+    let start = begun c in
+    omega (arith, name-begins _ _ (start .pre) (marked c), line-inside (now (start .args .text)) (start .args .at))
 
 returns-2 : tie.Need-returns-2
 returns-2 c =
-    let else1 = c .before .before .before in
-    absurd (field-not-malformed _ _ (else1 .before .before .before .pre) (marked else1) (sym (c .before .before .read-field .ensures) ∙ c .enum-told .given .1))
+    let line : tie.Else1 = search in
+    absurd (field-not-malformed _ _ (begun line .pre) (marked line) (sym (c .before .before .read-field .ensures) ∙ c .enum-told .given .1))
 
--- the number behind the mark
-number : (c : tie.After-known-told) →
-    fieldAt (now (c .before .before .before .before .before .before .before .args .text)) (c .before .before .before .before .before .before .before .args .at + 2)
-    ≡ Number (c .before .value .given .0 .0) (c .before .value .given .0 .1 .0)
-number c = sym (c .before .before .before .read-field .ensures) ∙ c .before .value .given .1
+-- ---- The number behind the mark
+
+abbrev line : tie.After-known-told → tie.Else1
+line c = search
+
+number : (c : tie.After-known-told) → let args = begun (line c) .args in let read = c .before .value .given .0 in
+    fieldAt (now (args .text)) (args .at + 2) ≡ Number (read .0) (read .1 .0)
+number c = let called : tie.After-read-field = search in sym (called .read-field .ensures) ∙ c .before .value .given .1
 
 returns-3 : tie.Need-returns-3
-returns-3 c = let else1 = c .before .before .before .before .before in other-junction _ _ (else1 .before .before .before .pre) (marked else1) (number (c .before)) _ (c .if2 .taken)
+returns-3 c = let told = c .before in other-junction _ _ (begun (line told) .pre) (marked (line told)) (number told) _ (c .if2 .taken)
 
 add-t9 : tie.Need-add-t9
 add-t9 c =
-    let else1 = c .before .before .before .before .before in
-    let entry = else1 .before .before .before in
-    omega (arith, next-is _ _ (entry .pre) (marked else1) (number (c .before)), name-begins _ _ (entry .pre) (marked else1), line-inside (now (entry .args .text)) (entry .args .at))
+    let told = c .before in
+    let is = marked (line told) in
+    let start = begun (line told) in
+    let inside = line-inside (now (start .args .text)) (start .args .at) in
+    omega (arith, next-is _ _ (start .pre) is (number told), name-begins _ _ (start .pre) is, inside)
 
 returns-4 : tie.Need-returns-4
-returns-4 c = let else1 = c .before .before .before .before .before in this-junction _ _ (else1 .before .before .before .pre) (marked else1) (number (c .before)) _ (c .if2 .left)
+returns-4 c = let told = c .before in this-junction _ _ (begun (line told) .pre) (marked (line told)) (number told) _ (c .if2 .left)
 
 pub name-start-spec : {M : Type 1} → statement M
 name-start-spec =

@@ -84,7 +84,8 @@ pub extern "C" fn exports_labels(
     labels: &mut [u32],
     predecessors: &mut [u16],
 ) -> u32
-    ensures answer { λ r. ⌜ r ≡ numberOr0 (labelsAnswer (lentNetwork junctions fences tails heads lengths holds speeds) source departure (now (labels .entry)) (now (predecessors .entry))) ⌝ }
+    ensures answer { λ r. ⌜ r ≡
+        numberOr0 (labelsAnswer (lentNetwork junctions fences tails heads lengths holds speeds) source departure (now (labels .entry)) (now (predecessors .entry))) ⌝ }
     ensures labels { λ _. ⌜ now (labels .exit) ≡
         labelsAfter (lentNetwork junctions fences tails heads lengths holds speeds) source departure (now (labels .entry)) (now (predecessors .entry)) ⌝ }
     ensures predecessors { λ _. ⌜ now (predecessors .exit) ≡

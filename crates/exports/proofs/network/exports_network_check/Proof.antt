@@ -12,8 +12,9 @@ returns c = coded numberOr0 outcomeOf (c .enum-told .given .1) (c .before .befor
 
 returns-2 : tie.Need-returns-2
 returns-2 c =
-    let told = c .before .before in
-    c .number .ensures ∙ coded numberOr0 outcomeOf (told .refusal .given .1) (told .before .before .network-check .ensures)
+    let called : tie.After-network-check = search in
+    let told : tie.After-refusal = search in
+    c .number .ensures ∙ coded numberOr0 outcomeOf (told .refusal .given .1) (called .network-check .ensures)
 
 pub exports-network-check-spec : {M : Type 1} → statement M
 exports-network-check-spec =

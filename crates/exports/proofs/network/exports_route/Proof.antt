@@ -9,15 +9,16 @@ use Rattle.exports.proofs.network.exports_route.Tie as tie
 
 returns : tie.Need-returns
 returns c =
-    let told = c .before in
-    let called = told .before .before .before .before in
-    (coded countCode outcomeOf (told .count .given .1) (called .route .ensures .0), called .route .ensures .1 .1)
+    let called : tie.After-route = search in
+    let (answer, (_, list)) = called .route .ensures in
+    (coded countCode outcomeOf (c .before .count .given .1) answer, list)
 
 returns-2 : tie.Need-returns-2
 returns-2 c =
-    let told = c .before .before in
-    let called = told .before .before .before .before in
-    (c .code .ensures ∙ coded countCode outcomeOf (told .refusal .given .1) (called .route .ensures .0), called .route .ensures .1 .1)
+    let called : tie.After-route = search in
+    let told : tie.After-refusal = search in
+    let (answer, (_, list)) = called .route .ensures in
+    (c .code .ensures ∙ coded countCode outcomeOf (told .refusal .given .1) answer, list)
 
 pub exports-route-spec : {M : Type 1} → statement M
 exports-route-spec =

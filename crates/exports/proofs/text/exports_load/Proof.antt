@@ -17,48 +17,53 @@ use Rattle.exports.proofs.Fits.{CountsFit, counts-fit}
 use Rattle.exports.proofs.text.exports_load.Statement.{statement}
 use Rattle.exports.proofs.text.exports_load.Tie as tie
 
-abbrev called : tie.After-slice-known10 → tie.After-load
-called c = c .before .before .before .before .before .before .before .before .before .before
-
-abbrev entry : tie.After-load → tie.After-shared-slice-known
-entry c = c .before .before .before .before .before .before .before .before .before .before .before
+abbrev begun : tie.After-load → tie.Start
+begun c = search
 
 abbrev text : tie.After-load → List ℕ
-text c = now (entry c .before .args .text)
+text c = now (begun c .args .text)
 
 abbrev lent : tie.After-load → Tables
-lent c = let args = entry c .before .args in tables (now (args .fences)) (now (args .tails)) (now (args .heads)) (now (args .lengths)) (now (args .speeds))
+lent c = let args = begun c .args in tables (now (args .fences)) (now (args .tails)) (now (args .heads)) (now (args .lengths)) (now (args .speeds))
 
 bytes : (c : tie.After-load) → Bytes (text c)
-bytes c i h = entry c .shared-slice-known .given i .fits
+bytes c i h = let known : tie.After-shared-slice-known = search in known .shared-slice-known .given i .fits
+
+-- ---- The counts of a town
+
+abbrev called : tie.After-junctions → tie.After-load
+called c = search
 
 abbrev reply : tie.After-junctions → Counts
 reply c = let fields = c .junctions .given .0 in counts (fields .0) (fields .1 .0) (fields .1 .1 .0)
 
-answered : (c : tie.After-junctions) → let load = called (c .before .before) in accepted (reply c) ≡ loadAnswer (text load) (lent load)
-answered c = sym (ap readingOf (c .junctions .given .1)) ∙ called (c .before .before) .load .ensures .0
+answered : (c : tie.After-junctions) → accepted (reply c) ≡ loadAnswer (text (called c)) (lent (called c))
+answered c = sym (ap readingOf (c .junctions .given .1)) ∙ called c .load .ensures .0
 
 add-result-2 : tie.Need-add-result-2
 add-result-2 c =
     let told = c .before in
-    let load = called (told .before .before) in
+    let load = called told in
     let fit : CountsFit (reply told) = counts-fit (text load) (lent load) (bytes load) (sym (answered told)) in
     omega (arith, fit .junctions-fit, fit .intervals-fit, fit .arcs-fit)
 
+returns : tie.Need-returns
+returns c = let told = c .before in (ap loadCode (answered told), called told .load .ensures .1)
+
+-- ---- A refusal
+
 add-result-3 : tie.Need-add-result-3
-add-result-3 c = omega (arith, c .number .ensures, number-fits (c .before .before .refusal .given .0 .0))
+add-result-3 c = let told : tie.After-refusal = search in omega (arith, c .number .ensures, number-fits (told .refusal .given .0 .0))
 
 add-result-4 : tie.Need-add-result-4
-add-result-4 c = omega (arith, c .number .ensures, number-fits (c .before .before .refusal .given .0 .0))
-
-returns : tie.Need-returns
-returns c = (ap loadCode (answered (c .before)), called (c .before .before .before) .load .ensures .1)
+add-result-4 c = let told : tie.After-refusal = search in omega (arith, c .number .ensures, number-fits (told .refusal .given .0 .0))
 
 returns-2 : tie.Need-returns-2
 returns-2 c =
-    let told = c .before .before in
-    let load = called (told .before .before) .load in
-    (rw (c .number .ensures) (coded loadCode readingOf (told .refusal .given .1) (load .ensures .0)), load .ensures .1)
+    let called : tie.After-load = search in
+    let told : tie.After-refusal = search in
+    let (answer, tables) = called .load .ensures in
+    (rw (c .number .ensures) (coded loadCode readingOf (told .refusal .given .1) answer), tables)
 
 pub exports-load-spec : {M : Type 1} → statement M
 exports-load-spec =

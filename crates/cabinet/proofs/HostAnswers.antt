@@ -94,10 +94,11 @@ module _ (N : Network) (kept : Accepted N) (source departure destination : ℕ) 
   rule-refusal (suc (suc zero)) h before e r = subst HostRefusal e HostRefusal.destination
   rule-refusal (suc (suc (suc zero))) h before e r = subst HostRefusal e HostRefusal.unreached
   rule-refusal (suc (suc (suc (suc zero)))) h before e r =
-      let source-below = ltb-true source (N .junctions) (not-false _ (before .0)) in
-      let departure-below = ltb-true departure day (not-false _ (before .1 .0)) in
-      let destination-below = ltb-true destination (N .junctions) (not-false _ (before .1 .1 .0)) in
-      let reached = eqb-false arrival never (before .1 .1 .1 .0) in
+      let (from, (at, (to, (label, _)))) = before in
+      let source-below = ltb-true source (N .junctions) (not-false _ from) in
+      let departure-below = ltb-true departure day (not-false _ at) in
+      let destination-below = ltb-true destination (N .junctions) (not-false _ to) in
+      let reached = eqb-false arrival never label in
       let replies = route-found source-below departure-below destination-below reached in
       absurd (let z : _≡_ {A = ℕ} 0 1 = cc in omega arith)
   rule-refusal (suc (suc (suc (suc (suc k))))) h before e r = absurd (omega arith)

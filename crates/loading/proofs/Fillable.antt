@@ -52,12 +52,13 @@ line-keeps : (p q : Progress) (line : List ℕ) → lineAnswer p line ≡ replie
 unfolding lineAnswer
 line-keeps p q line e =
     let kept = replies-kept (lineRules p line) (lineRead p line) q e in
+    let (_, (mark, (turn, (form, (values, _))))) = kept in
     let same : replied q ≡ replied (lineRead p line) = sym e ∙ kept-replies (lineRules p line) (lineRead p line) kept in (
       record {
-        marked-so = known-mark (markOf line) (not-false (known (markOf line)) (kept .1 .0));
-        in-turn = not-false (inTurn (p .turn) (markOf line)) (kept .1 .1 .0);
-        form = not-false (formKeeps p line) (kept .1 .1 .1 .0);
-        values = not-false (valuesKeep p line) (kept .1 .1 .1 .1 .0);
+        marked-so = known-mark (markOf line) (not-false (known (markOf line)) mark);
+        in-turn = not-false (inTurn (p .turn) (markOf line)) turn;
+        form = not-false (formKeeps p line) form;
+        values = not-false (valuesKeep p line) values;
       },
       cc,
     )

@@ -57,7 +57,8 @@ lines-name p q number (line ∷ next ∷ lines) e = go (lineAnswer p line) refl 
         onward answer number (λ q′. linesFrom q′ (suc number) (next ∷ lines)) ≡ accepted q → LineNames line × Each LineNames (next ∷ lines)
     go (refused fault) a later e = absurd (let z : _≡_ {A = ℕ} 0 1 = cc in omega arith)
     go (replied q′) a later e =
-        (form-names p line (not-false (formKeeps p line) (replies-kept (lineRules p line) (lineRead p line) q′ a .1 .1 .1 .0)), later q′ e)
+        let (_, (_, (_, (form, _)))) = replies-kept (lineRules p line) (lineRead p line) q′ a in
+        (form-names p line (not-false (formKeeps p line) form), later q′ e)
 
 pub accepted-names : (text : List ℕ) (p : Progress) → firstFault text ≡ accepted p → Each LineNames (pieces lineFeed text)
 unfolding firstFault

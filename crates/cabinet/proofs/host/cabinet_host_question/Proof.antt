@@ -22,7 +22,7 @@ bytes : (c : tie.After-load) → Bytes (now (begun c .args .text))
 bytes c i h = let text : tie.After-shared-slice-known = search in text .shared-slice-known .given i .fits
 
 abbrev held : tie.After-load → Tables
-held c = let last = c .load .last .1 in tables (last .0) (last .1 .0) (last .1 .1 .0) (last .1 .1 .1 .0) (last .1 .1 .1 .1 .0)
+held c = let (_, (fences, (tails, (heads, (lengths, (speeds, _)))))) = c .load .last in tables fences tails heads lengths speeds
 
 -- ---- Where the text is loaded
 
@@ -30,7 +30,7 @@ abbrev called : tie.After-loaded → tie.After-load
 called c = search
 
 abbrev reply : tie.After-loaded → Counts
-reply c = let fields = c .loaded .given .0 in counts (fields .0) (fields .1 .0) (fields .1 .1 .0)
+reply c = let (junctions, (intervals, (arcs, _))) = c .loaded .given .0 in counts junctions intervals arcs
 
 loaded : (c : tie.After-loaded) → accepted (reply c) ≡ loadAnswer (now (begun (called c) .args .text)) roomyTables
 loaded c = sym (ap readingOf (c .loaded .given .1)) ∙ called c .load .ensures .0

@@ -35,7 +35,7 @@ abbrev called : tie.After-junctions → tie.After-load
 called c = search
 
 abbrev reply : tie.After-junctions → Counts
-reply c = let fields = c .junctions .given .0 in counts (fields .0) (fields .1 .0) (fields .1 .1 .0)
+reply c = let (junctions, (intervals, (arcs, _))) = c .junctions .given .0 in counts junctions intervals arcs
 
 answered : (c : tie.After-junctions) → accepted (reply c) ≡ loadAnswer (text (called c)) (lent (called c))
 answered c = sym (ap readingOf (c .junctions .given .1)) ∙ called c .load .ensures .0

@@ -48,7 +48,8 @@ fill-speeds-requires : tie.Need-fill-speeds-requires
 fill-speeds-requires c κs =
     let start : tie.Start = search in
     let third : tie.After-take-number3 = search in
-    (taken third .still-fill, (rw (taken third .speeds-are) (start .pre .0 .speeds-fit), start .pre .1 .1 .1 .1))
+    let (fills, (_, (_, (_, room)))) = start .pre in
+    (taken third .still-fill, (rw (taken third .speeds-are) (fills .speeds-fit), room))
 
 returns : tie.Need-returns
 returns c =

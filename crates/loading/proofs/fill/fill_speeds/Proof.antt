@@ -36,7 +36,10 @@ cast-speeds : tie.Need-cast-speeds Inv-loop μ-loop
 cast-speeds c = record { fits = omega (arith, speed c .0) }
 
 slice-write-speeds : tie.Need-slice-write-speeds Inv-loop μ-loop
-slice-write-speeds c = let turn : tie.At-loop Inv-loop μ-loop = search in omega (arith, turn .loop .inv .0 .same-length, begun c .pre .1 .1)
+slice-write-speeds c =
+    let turn : tie.At-loop Inv-loop μ-loop = search in
+    let (_, (_, room)) = begun c .pre in
+    omega (arith, turn .loop .inv .0 .same-length, room)
 
 loop-again : tie.Need-loop-again Inv-loop μ-loop
 loop-again c = let turn = c .before .before in (one-stored (turn .before .loop .inv .0) (turn .loop-test .taken) _ (c .before .take-number .ensures), speed c .1)

@@ -9,7 +9,7 @@ use native.Mathlib.Nat.{lt-of-lt-of-le, le-trans, pow-suc, pow-le-pow-right}
 use native.Mathlib.Omega.{arith}
 use lib.Dec.{leb, ltb, eqb, eqb·suc-zero}
 use lib.ListN.{length, getD}
-use borrow.Author.Tests.{lt-ltb, le-ltb, leb-true, le-leb, lt-leb, eq-eqb, ne-eqb}
+use borrow.Author.Tests.{lt-ltb, le-ltb, leb-true, le-leb, lt-leb, ne-eqb}
 use Rattle.model.specs.Rules.{every}
 use Rattle.model.proofs.Rules.{true-both, both-true}
 use Rattle.model.proofs.Tests.{eqb-cases, leb-cases}
@@ -20,7 +20,7 @@ use Rattle.townfile.proofs.NumberForm.{keeps-number}
 use Rattle.fields.specs.Fields.{lineFrom, wordFrom, fieldAt}
 use Rattle.fields.specs.code.Digits.{justZero, numberFrom}
 use Rattle.fields.specs.declared.field.Field.the-variants.{Number, Malformed}
-use Rattle.fields.proofs.LineFrom.{line-ends, line-feed-ends, line-goes-on, word-ends, separator-ends, word-goes-on}
+use Rattle.fields.proofs.LineFrom.{line-ends, word-ends, separator-ends, word-goes-on, no-gap-begins}
 
 -- ---- A digit
 
@@ -109,20 +109,14 @@ no-field-at-end text at h = rw (line-ends text at h)
 
 pub no-field-without-gap : (text : List ℕ) (at : ℕ) → at < length text → (getD text at 0 ≡ space → ⊥) → Malformed ≡ fieldAt text at
 unfolding fieldAt
-no-field-without-gap text at h e = elim (eqb-cases (getD text at 0) lineFeed) [
-  | inl feed ↦ rw (line-feed-ends text at h (feed .1))
-  | inr other ↦ rw (line-goes-on text at h (other .1), ne-eqb (getD text at 0) space e)
-]
+no-field-without-gap text at h e = rw (no-gap-begins text at h e)
 
 -- ---- A field by its first digit
 
-module _ (text : List ℕ) (at : ℕ) (here : at < length text) (gap : getD text at 0 ≡ space) where
-  is-gap : eqb (getD (lineFrom text at) 0 0) space ≡ true
-  is-gap = rw (line-goes-on text at here (λ e. omega arith)) (eq-eqb (getD text at 0) space gap)
-
+module _ (text : List ℕ) (at : ℕ) (gap : eqb (getD (lineFrom text at) 0 0) space ≡ true) where
   no-digit : wordFrom text (at + 1) ≡ [] → Malformed ≡ fieldAt text at
   unfolding fieldAt numberKeeps
-  no-digit e = rw (is-gap, e)
+  no-digit e = rw (gap, e)
 
   pub no-digit-at-end : length text ≤ at + 1 → Malformed ≡ fieldAt text at
   no-digit-at-end h = no-digit (word-ends text (at + 1) (line-ends text (at + 1) h))
@@ -134,7 +128,7 @@ module _ (text : List ℕ) (at : ℕ) (here : at < length text) (gap : getD text
       | inl feed ↦ no-digit (separator-ends text (at + 1) inside (inl (feed .1)))
       | inr other ↦ elim (eqb-cases (getD text (at + 1) 0) space) [
         | inl parted ↦ no-digit (separator-ends text (at + 1) inside (inr (parted .1)))
-        | inr byte ↦ rw (is-gap, word-goes-on text (at + 1) inside (other .1) (byte .1), keeps-no-other (getD text (at + 1) 0) (wordFrom text (at + 1 + 1)) e)
+        | inr byte ↦ rw (gap, word-goes-on text (at + 1) inside (other .1) (byte .1), keeps-no-other (getD text (at + 1) 0) (wordFrom text (at + 1 + 1)) e)
       ]
     ]
 
@@ -142,7 +136,7 @@ module _ (text : List ℕ) (at : ℕ) (here : at < length text) (gap : getD text
     unfolding fieldAt justZero decimalFrom
     first-zero e =
         let word = digit-word text (at + 1) inside (omega arith) (omega arith) in
-        rw (is-gap, word, e, keeps-zero (wordFrom text (at + 1 + 1))) (go (wordFrom text (at + 1 + 1)))
+        rw (gap, word, e, keeps-zero (wordFrom text (at + 1 + 1))) (go (wordFrom text (at + 1 + 1)))
       where
         go : (more : List ℕ) → cond (eqb (length more) 0) (Number 0 (at + 1 + 1)) Malformed
             ≡ cond (eqb (length more) 0) (Number (decimal (48 ∷ more)) (at + 1 + length (48 ∷ more))) Malformed
@@ -158,7 +152,7 @@ module _ (text : List ℕ) (at : ℕ) (here : at < length text) (gap : getD text
         let word : wordFrom text (at + 1) ≡ first ∷ more = digit-word text (at + 1) inside low high in
         let value : 0 * 10 + (first - 48) ≡ first - 48 = omega arith in
         let end : at + 1 + suc (length more) ≡ at + 1 + 1 + length more = omega arith in
-        rw (is-gap, word, keeps-digit first more (omega arith) high, decimalFrom, value, end)
+        rw (gap, word, keeps-digit first more (omega arith) high, decimalFrom, value, end)
 
 -- ---- The end of a 0
 

@@ -2,7 +2,7 @@
 -- at a space too.
 use Prim.Native.Nat.{ℕ, zero, suc, _+_, _-_, _*_, _≤_, _<_}
 use mathlib.Core.Path.{_≡_, refl, sym, ap, _∙_}
-use mathlib.Core.Bool.{true}
+use mathlib.Core.Bool.{true, false}
 use mathlib.Core.Logic.{_⊎_, inl, inr}
 use mathlib.Core.List.{List, [], _∷_}
 use native.Mathlib.Numerals.{add-one}
@@ -45,6 +45,16 @@ module _ (text : List ℕ) (at : ℕ) where
   pub word-goes-on : at < length text → (getD text at 0 ≡ lineFeed → ⊥) → (getD text at 0 ≡ space → ⊥) → wordFrom text at ≡ getD text at 0 ∷ wordFrom text (at + 1)
   unfolding upTo
   word-goes-on h f e = rw (line-goes-on h f, upTo, ne-eqb (getD text at 0) space e)
+
+  -- A line that begins with a space, and one that does not.
+  pub gap-begins : at < length text → getD text at 0 ≡ space → eqb (getD (lineFrom text at) 0 0) space ≡ true
+  gap-begins h e = rw (line-goes-on h (λ f. omega arith)) (eq-eqb (getD text at 0) space e)
+
+  pub no-gap-begins : at < length text → (getD text at 0 ≡ space → ⊥) → eqb (getD (lineFrom text at) 0 0) space ≡ false
+  no-gap-begins h e = elim (eqb-cases (getD text at 0) lineFeed) [
+    | inl feed ↦ rw (line-feed-ends h (feed .1))
+    | inr other ↦ rw (line-goes-on h (other .1), ne-eqb (getD text at 0) space e)
+  ]
 
   -- ---- What the small functions answer
 

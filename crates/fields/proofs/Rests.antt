@@ -2,19 +2,17 @@
 use Prim.Native.Nat.{ℕ, _+_, _-_, _≤_, _<_}
 use mathlib.Core.Path.{_≡_, refl, sym, ap, _∙_}
 use mathlib.Core.Bool.{Bool, true, false, cond, not, _&&_}
-use mathlib.Core.Logic.{inl, inr}
 use mathlib.Core.List.{List, []}
 use native.Mathlib.Omega.{arith}
 use lib.Dec.{leb, ltb, eqb}
 use lib.ListN.{length, getD}
 use borrow.Author.Tests.{lt-ltb, le-ltb, le-leb, lt-leb, eq-eqb, ne-eqb}
 use Rattle.model.specs.Rules.{every}
-use Rattle.model.proofs.Tests.{eqb-cases}
 use Rattle.townfile.specs.Bytes.{lineFeed, space, printable}
 use Rattle.townfile.specs.Lines.{nameKeeps}
 use Rattle.fields.specs.Fields.{lineFrom, restIf, printableRest, nameRest, nameAt}
 use Rattle.fields.specs.declared.field.Rest.the-variants.{Good, Malformed}
-use Rattle.fields.proofs.LineFrom.{line-ends, line-feed-ends, line-goes-on, line-at, line-inside}
+use Rattle.fields.proofs.LineFrom.{line-ends, line-goes-on, gap-begins, no-gap-begins, line-at, line-inside}
 
 module _ (text : List ℕ) (i : ℕ) where
   pub rest-ends : lineFrom text i ≡ [] → Good i ≡ printableRest text i
@@ -119,10 +117,7 @@ module _ (text : List ℕ) (at : ℕ) where
   no-name-at-end h = rw (line-ends text at h)
 
   pub no-name-without-gap : at < length text → (getD text at 0 ≡ space → ⊥) → Malformed ≡ nameAt text at
-  no-name-without-gap h e = elim (eqb-cases (getD text at 0) lineFeed) [
-    | inl feed ↦ rw (line-feed-ends text at h (feed .1))
-    | inr other ↦ rw (line-goes-on text at h (other .1), ne-eqb (getD text at 0) space e)
-  ]
+  no-name-without-gap h e = rw (no-gap-begins text at h e)
 
   pub name-behind-gap : at < length text → getD text at 0 ≡ space → nameRest text (at + 1) ≡ nameAt text at
-  name-behind-gap h e = rw (line-goes-on text at h (λ f. omega arith), eq-eqb (getD text at 0) space e)
+  name-behind-gap h e = rw (gap-begins text at h e)

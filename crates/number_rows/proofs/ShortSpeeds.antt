@@ -6,7 +6,7 @@ use mathlib.Core.Bool.{true}
 use mathlib.Core.List.{List, [], _∷_}
 use native.Mathlib.Omega.{arith}
 use lib.ListN.{length, getD}
-use borrow.Author.Tests.{le-leb, eq-eqb}
+use borrow.Author.Tests.{le-leb}
 use Rattle.model.specs.Limits.{maxSpeed}
 use Rattle.model.specs.Rules.{every, speedKeeps}
 use Rattle.model.proofs.Rules.{both-true}
@@ -20,7 +20,7 @@ use Rattle.number_rows.specs.code.ShortSpeeds.{ReadTo, SpeedWord, ShortW
 use Rattle.fields.specs.declared.field.Field.the-variants as field
 use Rattle.number_rows.specs.declared.speeds.ShortRead.{ShortRead}
 use Rattle.number_rows.specs.declared.speeds.ShortRead.the-variants.{To, Unsure}
-use Rattle.fields.proofs.LineFrom.{line-feed-ends, line-goes-on, word-ends, space-ends}
+use Rattle.fields.proofs.LineFrom.{line-feed-ends, word-ends, space-ends, gap-begins}
 use Rattle.fields.proofs.Digits.{digit-is, digit-bounds, digit-word}
 use Rattle.number_rows.proofs.NumbersLeft.{numbers-within}
 use Rattle.number_rows.proofs.NumberLoops.{Left, left-goes-on, left-ends}
@@ -117,7 +117,7 @@ field-is : (text : List ℕ) (at end : ℕ) → at < length text → ShortField 
 unfolding fieldAt
 field-is text at end inside read e =
     let word = read .digits .word e in
-    rw (line-goes-on text at inside (λ feed. omega (arith, read .gap)), eq-eqb (getD text at 0) space (read .gap), word .form, word .behind)
+    rw (gap-begins text at inside (read .gap), word .form, word .behind)
 
 -- ---- The row
 

@@ -10,6 +10,7 @@ use native.Mathlib.Nat.{mul-le-mul-right, suc-mul}
 use native.Mathlib.Omega.{arith}
 use lib.ListN.{length, getD}
 use Rattle.model.specs.Labels.{noArc}
+use Rattle.model.specs.Network.{Roads}
 use Rattle.tournament.specs.Tournament.{Tournament}
 use Rattle.dijkstra.specs.code.Offering.{Tables, tables, HasArc, Offerable, ArcOffered, Drivable, AllOffered, skips, offers}
 use Rattle.dijkstra.proofs.Offered.{labels-stay, predecessors-stay, tournament-stays}
@@ -17,17 +18,17 @@ use Rattle.dijkstra.proofs.Offered.{labels-stay, predecessors-stay, tou
 pub arc-inside : (a n m : ℕ) → a < m → a * n + n ≤ m * n
 arc-inside a n m h = omega (arith, mul-le-mul-right n h, suc-mul a n)
 
-pub record Onward (first : ℕ) (fences heads lengths holds speeds next : List ℕ) (before : Tables) (settled : List Bool) (tick interval a : ℕ) (now : Tables) : Type 0 where
+pub record Onward (R : Roads) (heads next : List ℕ) (first : ℕ) (before : Tables) (settled : List Bool) (tick interval a : ℕ) (now : Tables) : Type 0 where
   pub arc-is : (a ≡ noArc → ⊥) → a < length heads
   pub labels-long : length (now .labels) ≡ length (before .labels)
   pub predecessors-long : length (now .predecessors) ≡ length (before .predecessors)
   pub tournament : Tournament (now .tree)
-  pub so-far : (after : Tables) → AllOffered fences heads lengths holds speeds next settled tick interval a now after →
-      AllOffered fences heads lengths holds speeds next settled tick interval first before after
+  pub so-far : (after : Tables) → AllOffered R heads next settled tick interval a now after →
+      AllOffered R heads next settled tick interval first before after
 
-module _ {first : ℕ} {fences heads lengths holds speeds next : List ℕ} {before : Tables} (d : Drivable first fences heads lengths holds speeds next before) where
+module _ {R : Roads} {heads next : List ℕ} {first : ℕ} {before : Tables} (d : Drivable R heads next first before) where
   -- another tree whose matches are played does as well
-  pub drivable-by : {tree : List ℕ} → Tournament tree → Drivable first fences heads lengths holds speeds next (tables (before .labels) (before .predecessors) (before .intervals) tree)
+  pub drivable-by : {tree : List ℕ} → Tournament tree → Drivable R heads next first (tables (before .labels) (before .predecessors) (before .intervals) tree)
   drivable-by played = record {
     few-arcs = d .few-arcs;
     few-intervals = d .few-intervals;
@@ -42,7 +43,7 @@ module _ {first : ℕ} {fences heads lengths holds speeds next : List ℕ} {befo
     tournament = played;
   }
 
-  pub onward-starts : (settled : List Bool) (tick interval : ℕ) → Onward first fences heads lengths holds speeds next before settled tick interval first before
+  pub onward-starts : (settled : List Bool) (tick interval : ℕ) → Onward R heads next first before settled tick interval first before
   onward-starts settled tick interval = record {
     arc-is = d .first-is;
     labels-long = refl;
@@ -51,18 +52,18 @@ module _ {first : ℕ} {fences heads lengths holds speeds next : List ℕ} {befo
     so-far = λ after rest. rest;
   }
 
-  module _ {settled : List Bool} {tick interval a : ℕ} {now : Tables} (o : Onward first fences heads lengths holds speeds next before settled tick interval a now)
+  module _ {settled : List Bool} {tick interval a : ℕ} {now : Tables} (o : Onward R heads next first before settled tick interval a now)
       (some : a ≡ noArc → ⊥) where
     abbrev is-arc : a < length heads
     is-arc = o .arc-is some
 
-    pub onward-arc : HasArc a fences lengths holds speeds
+    pub onward-arc : HasArc R a
     onward-arc = record {
       few-arcs = omega (arith, is-arc, d .few-arcs);
       few-intervals = d .few-intervals;
       has-length = omega (arith, is-arc, d .lengths-long);
       has-hold = omega (arith, is-arc, d .holds-long);
-      has-speeds = omega (arith, arc-inside a (length fences) (length heads) is-arc, d .speeds-long);
+      has-speeds = omega (arith, arc-inside a (length (R .fences)) (length heads) is-arc, d .speeds-long);
     }
 
     -- the code takes the head's remainder, which is the head
@@ -81,7 +82,7 @@ module _ {first : ℕ} {fences heads lengths holds speeds next : List ℕ} {befo
     }
 
     pub onward-skips : getD settled head false ≡ true →
-        Onward first fences heads lengths holds speeds next before settled tick interval (getD next a 0) now
+        Onward R heads next first before settled tick interval (getD next a 0) now
     onward-skips done = record {
       arc-is = λ more. d .next-is a is-arc more .1;
       labels-long = o .labels-long;
@@ -90,8 +91,8 @@ module _ {first : ℕ} {fences heads lengths holds speeds next : List ℕ} {befo
       so-far = λ after rest. o .so-far after (skips some (rw head-is at done) rest);
     }
 
-    pub onward-offers : {then : Tables} → getD settled head false ≡ false → ArcOffered fences lengths holds speeds a head tick interval now then →
-        Onward first fences heads lengths holds speeds next before settled tick interval (getD next a 0) then
+    pub onward-offers : {then : Tables} → getD settled head false ≡ false → ArcOffered R a head tick interval now then →
+        Onward R heads next first before settled tick interval (getD next a 0) then
     onward-offers waits driven = record {
       arc-is = λ more. d .next-is a is-arc more .1;
       labels-long = labels-stay driven ∙ o .labels-long;

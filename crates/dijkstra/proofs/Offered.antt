@@ -9,6 +9,7 @@ use lib.Dec.{ltb, eqb}
 use lib.ListN.{length, getD, set, length-set}
 use borrow.Author.Tests.{lt-ltb, le-ltb, eq-eqb, ne-eqb}
 use Rattle.model.proofs.Tests.{ltb-cases}
+use Rattle.model.specs.Network.{Roads}
 use Rattle.tournament.specs.Tournament.{Tournament, Entered, keyOf}
 use Rattle.dijkstra.specs.code.Offering.{Tables, tables, Leaves, ArcOffered, missed, offered}
 
@@ -75,15 +76,15 @@ module _ {a head t interval : ℕ} {before after : Tables} (l : Leaves a head t 
       (λ w. rw (l .rekeyed .kept (w .1)) played)
       (ltb-cases t (getD (before .labels) head 0))
 
-module _ {fences lengths holds speeds : List ℕ} {a head tick interval : ℕ} where
-  pub labels-stay : {t u : Tables} → ArcOffered fences lengths holds speeds a head tick interval t u → length (u .labels) ≡ length (t .labels)
+module _ {R : Roads} {a head tick interval : ℕ} where
+  pub labels-stay : {t u : Tables} → ArcOffered R a head tick interval t u → length (u .labels) ≡ length (t .labels)
   labels-stay (missed on) = refl
   labels-stay (offered on leaves) = labels-stay-long leaves
 
-  pub predecessors-stay : {t u : Tables} → ArcOffered fences lengths holds speeds a head tick interval t u → length (u .predecessors) ≡ length (t .predecessors)
+  pub predecessors-stay : {t u : Tables} → ArcOffered R a head tick interval t u → length (u .predecessors) ≡ length (t .predecessors)
   predecessors-stay (missed on) = refl
   predecessors-stay (offered on leaves) = predecessors-stay-long leaves
 
-  pub tournament-stays : {t u : Tables} → ArcOffered fences lengths holds speeds a head tick interval t u → Tournament (t .tree) → Tournament (u .tree)
+  pub tournament-stays : {t u : Tables} → ArcOffered R a head tick interval t u → Tournament (t .tree) → Tournament (u .tree)
   tournament-stays (missed on) played = played
   tournament-stays (offered on leaves) played = stays-tournament leaves played

@@ -6,7 +6,7 @@ use mathlib.Core.Bool.{Bool}
 use mathlib.Core.List.{List}
 use native.Mathlib.Omega.{arith}
 use lib.ListN.{getD}
-use Rattle.model.specs.Network.{Network}
+use Rattle.model.specs.Network.{Network, roadsOf}
 use Rattle.checking.specs.Question.{Taken}
 use Rattle.index_bounds.specs.Fitting.{TablesFit}
 use Rattle.dijkstra.specs.code.Linked.{Linked}
@@ -23,7 +23,7 @@ pub record Between (N : Network) (source departure : ℕ) (first next : List ℕ
 
 module _ {N : Network} (fit : TablesFit N) where
   pub drivable : {first next : List ℕ} {settled : List Bool} {t : Tables} {junction : ℕ} → Linked (N .tails) first next → Standing (N .junctions) settled t →
-      junction < 200 → Drivable (getD first junction 0) (N .fences) (N .heads) (N .lengths) (N .holds) (N .speeds) next t
+      junction < 200 → Drivable (roadsOf N) (N .heads) next (getD first junction 0) t
   drivable {next} linked s inside = record {
     few-arcs = omega (arith, fit .heads-long, fit .arcs-fit);
     few-intervals = fit .intervals-fit;
@@ -44,7 +44,7 @@ module _ {N : Network} (fit : TablesFit N) where
       (b : Between N source departure first next settled t) {junction : ℕ} (inside : junction < 200)
       (waits : Waits (t .labels) settled junction) (nearest : ByLast (t .labels) → Nearest (t .labels) settled junction) where
     pub between-goes-on : {settled′ : List Bool} {u : Tables} →
-        Settles junction (N .fences) (N .heads) (N .lengths) (N .holds) (N .speeds) first next settled settled′ t u →
+        Settles (roadsOf N) (N .heads) first next junction settled settled′ t u →
         Between N source departure first next settled′ u
     between-goes-on s = rw (s .settled-is) (record {
       linked = b .linked;

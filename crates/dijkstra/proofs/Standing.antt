@@ -11,6 +11,7 @@ use lib.ListN.{length, getD, set, replicate, length-set, length-replicate}
 use lib.Seq.{getD-set-same, getD-set-other}
 use Rattle.model.specs.Ticks.{last, never}
 use Rattle.model.specs.Labels.{noArc}
+use Rattle.model.specs.Network.{Roads}
 use Rattle.model.proofs.Entries.{getD-inside, getD-all}
 use Rattle.model.proofs.Tests.{ltb-cases}
 use Rattle.checking.proofs.Flags.{true-not-false}
@@ -104,10 +105,10 @@ module _ {junctions : ℕ} {settled : List Bool} {t : Tables} (s : Standing junc
 abbrev pub IsArc : List ℕ → ℕ → Type 0
 IsArc heads a = (a ≡ noArc → ⊥) → a < length heads
 
-module _ {fences heads lengths holds speeds next : List ℕ} {settled : List Bool} {tick interval junctions : ℕ}
+module _ {R : Roads} {heads next : List ℕ} {settled : List Bool} {tick interval junctions : ℕ}
     (head-below : (a : ℕ) → a < length heads → getD heads a 0 < junctions)
     (next-is : (a : ℕ) → a < length heads → IsArc heads (getD next a 0)) where
-  pub stands-offered : {a : ℕ} {t u : Tables} → AllOffered fences heads lengths holds speeds next settled tick interval a t u →
+  pub stands-offered : {a : ℕ} {t u : Tables} → AllOffered R heads next settled tick interval a t u →
       IsArc heads a → Standing junctions settled t → Standing junctions settled u
   stands-offered none-left is-arc s = s
   stands-offered {a} (skips some done rest) is-arc s = stands-offered rest (next-is a (is-arc some)) s

@@ -13,12 +13,11 @@ use lib.ListN.{length, getD, set, replicate, length-take, length-drop}
 use lib.Seq.{getD-set-same, getD-set-other}
 use Rattle.model.specs.Ticks.{last, never}
 use Rattle.model.specs.Intervals.{intervalOf, tickAndInterval?}
-use Rattle.model.specs.Network.{Network, Accepted, arcs, intervals, speedOn, driveOf, netOf, arcSpeeds}
+use Rattle.model.specs.Network.{Network, Accepted, arcs, intervals, roadsOf, speedsOf, driveOf, netOf}
 use Rattle.model.specs.Labels.{noArc, labelsOf, predecessorsOf}
-use Rattle.model.proofs.Holds.{with-hold-by-last}
 use Rattle.model.proofs.WithInterval.{arrived-at, arrived-never}
 use Rattle.model.proofs.Entries.{getD-inside, getD-all}
-use Rattle.model.proofs.Networks.{accepted-sound}
+use Rattle.model.proofs.Networks.{accepted-sound, drive-by-last}
 use Rattle.model.proofs.Tests.{ltb-cases, eqb-cases}
 use Rattle.checking.specs.Question.{Taken}
 use Rattle.driving.specs.ArcKept.{ArcKept}
@@ -48,10 +47,10 @@ use Rattle.dijkstra.proofs.Settling.{
 -- ---- The arc that an offer drives
 
 arc-kept : (N : Network) → Accepted N → (tick interval a : ℕ) → tick ≤ last → interval ≡ intervalOf (N .fences) tick → a < arcs N →
-    ArcKept tick interval (getD (N .lengths) a 0) (N .fences) (arcSpeeds (N .fences) (N .speeds) a)
+    ArcKept tick interval (getD (N .lengths) a 0) (N .fences) (speedsOf N a)
 arc-kept N accepted tick interval a in-time in-interval is-arc =
     let inside = arc-inside a (intervals N) (arcs N) is-arc in
-    let as-many : length (arcSpeeds (N .fences) (N .speeds) a) ≡ intervals N = simp (length-take, length-drop) (omega (arith, accepted .speeds-long)) in
+    let as-many : length (speedsOf N a) ≡ intervals N = simp (length-take, length-drop) (omega (arith, accepted .speeds-long)) in
     record {
       in-time = in-time;
       in-interval = in-interval;
@@ -78,7 +77,8 @@ module _ {N : Network} {source departure : ℕ} (q : Taken N source departure) w
   round-starts {t} {interval} l p in-interval k = record {
     tick = departure;
     settling = settling-starts (q .source-below) (omega (arith, q .departure-below)) l p (getD-all 200 false) (λ b h d. d);
-    intervals-kept = kept-first (N .fences) t (N .junctions) source departure interval (q .source-below) (omega (arith, q .source-below, q .accepted .junctions-fit)) l k in-interval;
+    intervals-kept = kept-first (N .fences) t (N .junctions) source departure interval (q .source-below)
+        (omega (arith, q .source-below, q .accepted .junctions-fit)) l k in-interval;
   }
 
   module _ {settled : List Bool} {t : Tables} (r : Round N source departure settled t) where
@@ -147,7 +147,7 @@ module _ {N : Network} (accepted : Accepted N) {source departure tick : ℕ} {se
   head = getD (N .heads) a 0
 
   abbrev arrives : ℕ
-  arrives = driveOf N a tick
+  arrives = driveOf (roadsOf N) a tick
 
   label-is : getD labels head never ≡ getD labels head 0
   label-is = getD-inside labels head never 0 (omega (arith, accepted .head-below a is-arc, s .labels-long))
@@ -257,18 +257,17 @@ module _ {N : Network} {source departure : ℕ} (q : Taken N source departure) w
     }
 
     -- what the engine answers is the arrival on the arc
-    arrives-on : {arrived : Option (ℕ × ℕ)} → ArrivesOn (N .fences) (N .lengths) (N .holds) (N .speeds) a tick interval arrived →
-        arrived ≡ tickAndInterval? (N .fences) (driveOf N a tick)
-    unfolding driveOf speedOn
+    abbrev arrives-at : ℕ
+    arrives-at = driveOf (roadsOf N) a tick
+
+    arrives-on : {arrived : Option (ℕ × ℕ)} → ArrivesOn (roadsOf N) a tick interval arrived →
+        arrived ≡ tickAndInterval? (N .fences) arrives-at
     arrives-on on = on (arc-kept N (q .accepted) tick interval a (turn .settling .in-time) (turn .interval-is) (at .0))
 
-    by-last : (driveOf N a tick ≤ last) ⊎ (driveOf N a tick ≡ never)
-    unfolding driveOf
-    by-last = with-hold-by-last _ _ _ _
-
-    turn-misses : ArrivesOn (N .fences) (N .lengths) (N .holds) (N .speeds) a tick interval Option.none → Turn N source departure settled junction tick interval (getD next a 0) t
+    turn-misses : ArrivesOn (roadsOf N) a tick interval Option.none → Turn N source departure settled junction tick interval (getD next a 0) t
     turn-misses on = record {
-      settling = missed (q .accepted) (turn .settling) a (at .0) tail-settled tail-label more (arrived-never (N .fences) (driveOf N a tick) by-last (arrives-on on));
+      settling = missed (q .accepted) (turn .settling) a (at .0) tail-settled tail-label more
+          (arrived-never (N .fences) arrives-at (drive-by-last (roadsOf N) a tick) (arrives-on on));
       junction-settled = turn .junction-settled;
       tick-is = turn .tick-is;
       interval-is = turn .interval-is;
@@ -276,7 +275,7 @@ module _ {N : Network} {source departure : ℕ} (q : Taken N source departure) w
     }
 
     turn-offers : {arrival arrives-in : ℕ} {u : Tables} → getD settled (getD (N .heads) a 0) false ≡ false →
-        ArrivesOn (N .fences) (N .lengths) (N .holds) (N .speeds) a tick interval (Option.some (arrival, arrives-in)) →
+        ArrivesOn (roadsOf N) a tick interval (Option.some (arrival, arrives-in)) →
         Leaves a (getD (N .heads) a 0) arrival arrives-in t u → Turn N source departure settled junction tick interval (getD next a 0) u
     turn-offers {arrival} {arrives-in} {u} waits on leaves = record {
       settling = rw (labels-are, predecessors-are) (offered (q .accepted) (turn .settling) a (at .0) tail-settled tail-label more waits (omega (arith, arrives .2)));
@@ -292,20 +291,20 @@ module _ {N : Network} {source departure : ℕ} (q : Taken N source departure) w
         head : ℕ
         head = getD (N .heads) a 0
 
-        arrives : (arrival ≡ driveOf N a tick) × (arrives-in ≡ intervalOf (N .fences) (driveOf N a tick)) × (driveOf N a tick ≤ last)
-        arrives = arrived-at (N .fences) arrival arrives-in (driveOf N a tick) (arrives-on on)
+        arrives : (arrival ≡ arrives-at) × (arrives-in ≡ intervalOf (N .fences) arrives-at) × (arrives-at ≤ last)
+        arrives = arrived-at (N .fences) arrival arrives-in arrives-at (arrives-on on)
 
-        labels-are : u .labels ≡ lowered (t .labels) head (driveOf N a tick)
+        labels-are : u .labels ≡ lowered (t .labels) head arrives-at
         labels-are = rw (arrives .0) at (leaves .labels-are)
 
-        predecessors-are : u .predecessors ≡ taken (t .labels) (t .predecessors) head (driveOf N a tick) a
+        predecessors-are : u .predecessors ≡ taken (t .labels) (t .predecessors) head arrives-at a
         predecessors-are = rw (arrives .0) at (leaves .predecessors-are)
 
-        stays : getD (lowered (t .labels) head (driveOf N a tick)) junction never ≡ getD (t .labels) junction never
+        stays : getD (lowered (t .labels) head arrives-at) junction never ≡ getD (t .labels) junction never
         stays = settled-stays (q .accepted) (turn .settling) a (at .0) tail-settled tail-label more waits junction (turn .junction-settled)
 
   pub turn-through : {settled : List Bool} {first next : List ℕ} {junction tick interval a : ℕ} {t u : Tables} → Linked (N .tails) first next →
-      AllOffered (N .fences) (N .heads) (N .lengths) (N .holds) (N .speeds) next settled tick interval a t u → OfJunction N junction a →
+      AllOffered (roadsOf N) (N .heads) next settled tick interval a t u → OfJunction N junction a →
       Turn N source departure settled junction tick interval a t → Turn N source departure settled junction tick interval noArc u
   turn-through linked none-left is-arc turn = turn
   turn-through linked (skips some done rest) is-arc turn =

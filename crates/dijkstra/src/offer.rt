@@ -1,4 +1,5 @@
 // The offers of a settled junction's arcs: each arc's arrival may lower its head's label.
+ghost use Rattle.model.specs.Lent.{roadsIn, lentRoads};
 ghost use Rattle.dijkstra.specs.code.Offering.{tables, HasArc, Offerable, Leaves, ArcOffered, Drivable, AllOffered};
 use driving::hold::drive_with_hold;
 use model::label::NO_ARC;
@@ -56,9 +57,9 @@ fn offer_arc(
     intervals: &mut [u8; MAX_JUNCTIONS],
     tree: &mut [u32; NODES],
 )
-    requires { ⌜ HasArc a (now fences) (now lengths) (now holds) (now speeds) ⌝ }
+    requires { ⌜ HasArc (roadsIn fences lengths holds speeds) a ⌝ }
     requires { ⌜ Offerable head (tables (now labels) (now predecessors) (now intervals) (now tree)) ⌝ }
-    ensures { λ _. ⌜ ArcOffered (now (fences .entry)) (now (lengths .entry)) (now (holds .entry)) (now (speeds .entry)) a head tick interval
+    ensures { λ _. ⌜ ArcOffered (lentRoads fences lengths holds speeds) a head tick interval
         (tables (now (labels .entry)) (now (predecessors .entry)) (now (intervals .entry)) (now (tree .entry)))
         (tables (now (labels .exit)) (now (predecessors .exit)) (now (intervals .exit)) (now (tree .exit))) ⌝ }
 {
@@ -104,10 +105,10 @@ pub(crate) fn offer_arcs(
     intervals: &mut [u8; MAX_JUNCTIONS],
     tree: &mut [u32; NODES],
 )
-    requires { ⌜ Drivable first (now fences) (now heads) (now lengths) (now holds) (now speeds) (now next)
+    requires { ⌜ Drivable (roadsIn fences lengths holds speeds) (now heads) (now next) first
         (tables (now labels) (now predecessors) (now intervals) (now tree)) ⌝ }
-    ensures { λ _. ⌜ AllOffered (now (fences .entry)) (now (heads .entry)) (now (lengths .entry)) (now (holds .entry)) (now (speeds .entry)) (now (next .entry)) (now (settled .entry)) tick interval
-        first (tables (now (labels .entry)) (now (predecessors .entry)) (now (intervals .entry)) (now (tree .entry)))
+    ensures { λ _. ⌜ AllOffered (lentRoads fences lengths holds speeds) (now (heads .entry)) (now (next .entry)) (now (settled .entry)) tick interval first
+        (tables (now (labels .entry)) (now (predecessors .entry)) (now (intervals .entry)) (now (tree .entry)))
         (tables (now (labels .exit)) (now (predecessors .exit)) (now (intervals .exit)) (now (tree .exit))) ⌝ }
 {
     let mut a = first;

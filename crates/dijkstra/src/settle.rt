@@ -1,4 +1,5 @@
 // A round of the labelling.
+ghost use Rattle.model.specs.Lent.{roadsIn, lentRoads};
 ghost use Rattle.dijkstra.specs.code.Offering.{tables};
 ghost use Rattle.dijkstra.specs.code.Rounds.{Settleable, Settles};
 use crate::offer::offer_arcs;
@@ -24,9 +25,9 @@ pub(crate) fn settle(
     intervals: &mut [u8; MAX_JUNCTIONS],
     tree: &mut [u32; NODES],
 )
-    requires { ⌜ Settleable junction (now fences) (now heads) (now lengths) (now holds) (now speeds) (now first) (now next)
+    requires { ⌜ Settleable (roadsIn fences lengths holds speeds) (now heads) (now first) (now next) junction
         (tables (now labels) (now predecessors) (now intervals) (now tree)) ⌝ }
-    ensures { λ _. ⌜ Settles junction (now (fences .entry)) (now (heads .entry)) (now (lengths .entry)) (now (holds .entry)) (now (speeds .entry)) (now (first .entry)) (now (next .entry))
+    ensures { λ _. ⌜ Settles (lentRoads fences lengths holds speeds) (now (heads .entry)) (now (first .entry)) (now (next .entry)) junction
         (now (settled .entry)) (now (settled .exit))
         (tables (now (labels .entry)) (now (predecessors .entry)) (now (intervals .entry)) (now (tree .entry)))
         (tables (now (labels .exit)) (now (predecessors .exit)) (now (intervals .exit)) (now (tree .exit))) ⌝ }

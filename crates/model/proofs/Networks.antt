@@ -3,32 +3,32 @@
 use Prim.Native.Nat.{ℕ, _*_, _≤_, _<_}
 use mathlib.Core.Path.{_≡_, ap}
 use mathlib.Core.List.{List}
+use mathlib.Core.Logic.{_⊎_}
 use native.Mathlib.Decide.{decLt}
 use native.Mathlib.Omega.{arith}
 use lib.ListN.{length, getD, drop, length-take, List·getD-eq-default}
-use Rattle.model.specs.Flow.{spansOf}
+use Rattle.model.specs.Ticks.{last, never}
 use Rattle.model.specs.Intervals.{intervalOf, speedAt}
 use Rattle.model.specs.Walks.{Sound}
-use Rattle.model.specs.Network.{Network, Accepted, arcs, intervals, speedsOf, speedOn, driveOf, netOf}
+use Rattle.model.specs.Network.{Network, Accepted, arcs, intervals, Roads, roadsOf, speedsOf, speedOn, driveOf, netOf}
 use Rattle.model.specs.Demands.{Improves, NoTickSlower}
 use Rattle.model.proofs.Holds.{with-hold-is-later, with-hold-is-monotone, with-hold-non-passing, with-hold-by-last}
 use Rattle.model.proofs.Improvement.{Better}
+
+-- An arc is driven by the last tick or never.
+pub drive-by-last : (R : Roads) (a t : ℕ) → (driveOf R a t ≤ last) ⊎ (driveOf R a t ≡ never)
+unfolding driveOf
+drive-by-last R a t = with-hold-by-last _ _ _ t
 
 pub accepted-sound : (N : Network) → Accepted N → Sound (netOf N)
 unfolding driveOf
 accepted-sound N accepted = record {
   tail-below = accepted .tail-below;
   head-below = accepted .head-below;
-  later = λ a t is-arc below. with-hold-is-later (speedOn N a) (spans a) (hold a) t (omega (arith, accepted .some-length a is-arc)) below;
-  monotone = λ a s t is-arc earlier. with-hold-non-passing (speedOn N a) (spans a) (hold a) s t earlier;
-  driven = λ a t is-arc. with-hold-by-last (speedOn N a) (spans a) (hold a) t;
+  later = λ a t is-arc below. with-hold-is-later _ _ _ t (omega (arith, accepted .some-length a is-arc)) below;
+  monotone = λ a s t is-arc earlier. with-hold-non-passing _ _ _ s t earlier;
+  driven = λ a t is-arc. drive-by-last (roadsOf N) a t;
 }
-  where
-    spans : ℕ → ℕ
-    spans a = spansOf (getD (N .lengths) a 0)
-
-    hold : ℕ → ℕ
-    hold a = getD (N .holds) a 0
 
 module _ (A B : Network) (improves : Improves A B) where
   -- Past the last interval there is no speed at all.
@@ -48,10 +48,10 @@ no-tick-slower A B improves a t is-arc =
     rw (← same) (speed-no-lower A B improves a (intervalOf (A .fences) t) is-arc)
 
 module _ (A B : Network) (improves : Improves A B) where
-  pub drive-no-later : (a s t : ℕ) → a < arcs A → s ≤ t → driveOf B a s ≤ driveOf A a t
+  pub drive-no-later : (a s t : ℕ) → a < arcs A → s ≤ t → driveOf (roadsOf B) a s ≤ driveOf (roadsOf A) a t
   unfolding driveOf
   drive-no-later a s t is-arc earlier =
-      with-hold-is-monotone (speedOn B a) (speedOn A a) (spansOf (getD (B .lengths) a 0)) (spansOf (getD (A .lengths) a 0)) (getD (B .holds) a 0) (getD (A .holds) a 0) s t earlier
+      with-hold-is-monotone _ _ _ _ _ _ s t earlier
       (omega (arith, improves .no-longer a is-arc)) (improves .no-greater-hold a is-arc)
       (λ u. no-tick-slower A B improves a u is-arc)
 

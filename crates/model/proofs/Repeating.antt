@@ -10,7 +10,7 @@ use Rattle.model.specs.Ticks.{day, last, byLast}
 use Rattle.model.specs.Flow.{covered, arrival, IsArrival}
 use Rattle.model.specs.Holds.{arrivalWithHold}
 use Rattle.model.specs.Intervals.{passed, intervalOf, speedAt, SpeedsRepeat}
-use Rattle.model.specs.Network.{speedsOf, speedOn, driveOf, DrivesRepeat}
+use Rattle.model.specs.Network.{arcSpeeds, speedOn, driveOf, DrivesRepeat}
 use Rattle.model.proofs.Tests.{leb-cases}
 use Rattle.model.proofs.Arrival.{arrival-is, arrival-is-least}
 use Rattle.model.proofs.ByLast.{by-last-added}
@@ -50,5 +50,6 @@ either-first t m n =
 
 pub drives-repeat : DrivesRepeat
 unfolding driveOf arrivalWithHold speedOn
-drives-repeat N a t =
-    ap (λ (u : ℕ). byLast (u + getD (N .holds) a 0)) (arrival-repeats (speedOn N a) (speeds-repeat (N .fences) (speedsOf N a)) _ t) ∙ either-first _ day (getD (N .holds) a 0)
+drives-repeat R a t =
+    let hold = getD (R .holds) a 0 in
+    ap (λ (u : ℕ). byLast (u + hold)) (arrival-repeats (speedOn R a) (speeds-repeat (R .fences) (arcSpeeds R a)) _ t) ∙ either-first _ day hold

@@ -6,7 +6,7 @@ use mathlib.Core.List.{List}
 use mathlib.Core.Logic.{_↔_}
 use lib.ListN.{getD}
 use Rattle.model.specs.Ticks.{day, never}
-use Rattle.model.specs.Network.{Network, Accepted, arcs, intervals, speedsOf, speedOn, netOf}
+use Rattle.model.specs.Network.{Network, Accepted, arcs, intervals, roadsOf, speedsOf, speedOn, netOf}
 use Rattle.model.specs.Walks.{Earliest}
 use Rattle.model.specs.Labels.{labelsOf, predecessorsOf, Certified, Lowest}
 
@@ -53,4 +53,4 @@ pub record GetsBetter (A B : Network) (early late : ℕ) : Type 0 where
 
 -- Improved in every interval, an arc is slower at no tick of any day.
 abbrev pub NoTickSlower : Type 0
-NoTickSlower = (A B : Network) → Improves A B → (a t : ℕ) → a < arcs A → speedOn A a t ≤ speedOn B a t
+NoTickSlower = (A B : Network) → Improves A B → (a t : ℕ) → a < arcs A → speedOn (roadsOf A) a t ≤ speedOn (roadsOf B) a t

@@ -1,4 +1,4 @@
--- A town's network as its tables, the plain statement of its rules, and the net that it is.
+-- A town's network as its tables, the plain statement of its rules, what decides the drive on its arcs, and the net that it is.
 use Prim.Native.Nat.{ℕ, _+_, _*_, _≤_, _<_}
 use mathlib.Core.Path.{_≡_}
 use mathlib.Core.List.{List}
@@ -39,13 +39,6 @@ arcs N = length (N .tails)
 abbrev pub intervals : Network → ℕ
 intervals N = length (N .fences)
 
--- "Each arc has one speed per interval": the speeds stand arc by arc.
-abbrev pub arcSpeeds : List ℕ → List ℕ → ℕ → List ℕ
-arcSpeeds fences speeds a = take (length fences) (drop (a * length fences) speeds)
-
-abbrev pub speedsOf : Network → ℕ → List ℕ
-speedsOf N a = arcSpeeds (N .fences) (N .speeds) a
-
 -- The rules of a network.
 pub record Accepted (N : Network) : Type 0 where
   pub some-junction : 1 ≤ N .junctions
@@ -66,13 +59,37 @@ pub record Accepted (N : Network) : Type 0 where
   pub speed-fits : (i : ℕ) → i < arcs N * intervals N → getD (N .speeds) i 0 ≤ maxSpeed
   pub hold-fits : (a : ℕ) → a < arcs N → getD (N .holds) a 0 ≤ maxHold
 
+-- ---- The drive on an arc
+
+-- A network's roads are what decides the drive on each arc. What decides it besides, once there is more, is one field more here.
+pub record Roads : Type 0 where
+  pub fences : List ℕ
+  pub lengths : List ℕ
+  pub holds : List ℕ
+  pub speeds : List ℕ
+
+abbrev pub roads : List ℕ → List ℕ → List ℕ → List ℕ → Roads
+roads fences lengths holds speeds = record { fences = fences; lengths = lengths; holds = holds; speeds = speeds }
+
+abbrev pub roadsOf : Network → Roads
+roadsOf N = roads (N .fences) (N .lengths) (N .holds) (N .speeds)
+
+-- "Each arc has one speed per interval": the speeds stand arc by arc.
+abbrev pub arcSpeeds : Roads → ℕ → List ℕ
+arcSpeeds R a = take (length (R .fences)) (drop (a * length (R .fences)) (R .speeds))
+
+abbrev pub speedsOf : Network → ℕ → List ℕ
+speedsOf N a = arcSpeeds (roadsOf N) a
+
 -- The speed of a tick on an arc.
-unfoldable pub speedOn : Network → ℕ → ℕ → ℕ
-speedOn N a t = speedAt (N .fences) (speedsOf N a) t
+unfoldable pub speedOn : Roads → ℕ → ℕ → ℕ
+speedOn R a t = speedAt (R .fences) (arcSpeeds R a) t
 
 -- The arrival on an arc that is left at a tick, with the arc's hold: the next arc is left after it.
-unfoldable pub driveOf : Network → ℕ → ℕ → ℕ
-driveOf N a t = arrivalWithHold (speedOn N a) (spansOf (getD (N .lengths) a 0)) (getD (N .holds) a 0) t
+unfoldable pub driveOf : Roads → ℕ → ℕ → ℕ
+driveOf R a t = arrivalWithHold (speedOn R a) (spansOf (getD (R .lengths) a 0)) (getD (R .holds) a 0) t
+
+-- ---- The net that it is
 
 abbrev pub netOf : Network → Net
 netOf N = record {
@@ -80,11 +97,11 @@ netOf N = record {
   arcs = arcs N;
   tail = λ a. getD (N .tails) a 0;
   head = λ a. getD (N .heads) a 0;
-  drive = driveOf N;
+  drive = driveOf (roadsOf N);
 }
 
 -- ---- What is proved of it
 
 -- Who leaves an arc's tail a day later arrives a day later, if that is by the last tick, and else never.
 abbrev pub DrivesRepeat : Type 0
-DrivesRepeat = (N : Network) (a t : ℕ) → driveOf N a (t + day) ≡ byLast (driveOf N a t + day)
+DrivesRepeat = (R : Roads) (a t : ℕ) → driveOf R a (t + day) ≡ byLast (driveOf R a t + day)

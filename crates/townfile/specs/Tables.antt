@@ -8,7 +8,7 @@ use mathlib.Core.List.{List, [], _∷_, map, flatten}
 use lib.Dec.{eqb}
 use lib.ListN.{length, getD, drop}
 use Rattle.model.specs.Flow.{spansOf, arrival}
-use Rattle.model.specs.Network.{speedOn, driveOf}
+use Rattle.model.specs.Network.{roadsOf, speedOn, driveOf}
 use Rattle.model.specs.Rules.{replied}
 use Rattle.model.specs.NetworkRules.{networkCheck}
 use Rattle.townfile.specs.Bytes.{lineFeed, pieces}
@@ -68,4 +68,4 @@ DescribedIsAccepted = (text : List ℕ) (T : Town) → Describes text T → netw
 
 -- Document 02, order 5: "Town files so far (..) have hold 0": on a town's arcs the arrival is the old one, that of the flow alone.
 abbrev pub TownsAreNotHeld : Type 0
-TownsAreNotHeld = (T : Town) (a t : ℕ) → driveOf (networkOf T) a t ≡ arrival (speedOn (networkOf T) a) (spansOf (getD (networkOf T .lengths) a 0)) t
+TownsAreNotHeld = (T : Town) (a t : ℕ) → let R = roadsOf (networkOf T) in driveOf R a t ≡ arrival (speedOn R a) (spansOf (getD (R .lengths) a 0)) t

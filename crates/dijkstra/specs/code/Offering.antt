@@ -8,10 +8,8 @@ use lib.Dec.{ltb, eqb}
 use lib.ListN.{length, getD, set}
 use Rattle.model.specs.Limits.{maxJunctions, maxArcs, maxIntervals}
 use Rattle.model.specs.Labels.{noArc}
-use Rattle.model.specs.Flow.{spansOf}
-use Rattle.model.specs.Holds.{arrivalWithHold}
-use Rattle.model.specs.Intervals.{speedAt, tickAndInterval?}
-use Rattle.model.specs.Network.{arcSpeeds}
+use Rattle.model.specs.Intervals.{tickAndInterval?}
+use Rattle.model.specs.Network.{Roads, arcSpeeds, driveOf}
 use Rattle.driving.specs.ArcKept.{ArcKept}
 use Rattle.tournament.specs.Tournament.{Tournament, Entered, keyOf}
 
@@ -27,14 +25,10 @@ tables labels predecessors intervals tree = record { labels = labels; predecesso
 
 -- ---- An arc's offer
 
--- The arrival with its hold on an arc that is left at a tick, from the tables that an offer is lent.
-abbrev pub arrivalOn : List ℕ → List ℕ → List ℕ → List ℕ → ℕ → ℕ → ℕ
-arrivalOn fences lengths holds speeds a t = arrivalWithHold (speedAt fences (arcSpeeds fences speeds a)) (spansOf (getD lengths a 0)) (getD holds a 0) t
-
 -- What driving the arc comes to, where the arc keeps the rules.
-abbrev pub ArrivesOn : List ℕ → List ℕ → List ℕ → List ℕ → ℕ → ℕ → ℕ → Option (ℕ × ℕ) → Type 0
-ArrivesOn fences lengths holds speeds a tick interval arrived =
-    ArcKept tick interval (getD lengths a 0) fences (arcSpeeds fences speeds a) → arrived ≡ tickAndInterval? fences (arrivalOn fences lengths holds speeds a tick)
+abbrev pub ArrivesOn : Roads → ℕ → ℕ → ℕ → Option (ℕ × ℕ) → Type 0
+ArrivesOn R a tick interval arrived =
+    ArcKept tick interval (getD (R .lengths) a 0) (R .fences) (arcSpeeds R a) → arrived ≡ tickAndInterval? (R .fences) (driveOf R a tick)
 
 -- An earlier arrival lowers the head's label.
 abbrev pub lowered : List ℕ → ℕ → ℕ → List ℕ
@@ -55,15 +49,15 @@ pub record Rekeyed (labels before : List ℕ) (head t : ℕ) (after : List ℕ) 
   pub entered : t < getD labels head 0 → Entered before head (keyOf t head) after
   pub kept : getD labels head 0 ≤ t → after ≡ before
 
--- The tables have the arc.
-pub record HasArc (a : ℕ) (fences lengths holds speeds : List ℕ) : Type 0 where
+-- The roads have the arc.
+pub record HasArc (R : Roads) (a : ℕ) : Type 0 where
   pub few-arcs : a < maxArcs
-  pub few-intervals : length fences ≤ maxIntervals
-  pub has-length : a < length lengths
-  pub has-hold : a < length holds
-  pub has-speeds : a * length fences + length fences ≤ length speeds
+  pub few-intervals : length (R .fences) ≤ maxIntervals
+  pub has-length : a < length (R .lengths)
+  pub has-hold : a < length (R .holds)
+  pub has-speeds : a * length (R .fences) + length (R .fences) ≤ length (R .speeds)
 
--- They have the head.
+-- The tables have the head.
 pub record Offerable (head : ℕ) (before : Tables) : Type 0 where
   pub is-junction : head < maxJunctions
   pub has-label : head < length (before .labels)
@@ -78,21 +72,20 @@ pub record Leaves (a head t interval : ℕ) (before after : Tables) : Type 0 whe
   pub rekeyed : Rekeyed (before .labels) (before .tree) head t (after .tree)
 
 -- What driving an arc leaves: where it does not arrive by the last tick, all is as it was.
-pub data ArcOffered (fences lengths holds speeds : List ℕ) (a head tick interval : ℕ) : Tables → Tables → Type 0 where
-  missed : {t : Tables} → ArrivesOn fences lengths holds speeds a tick interval none → ArcOffered fences lengths holds speeds a head tick interval t t
-  offered : {arrival arrives-in : ℕ} {t u : Tables} → ArrivesOn fences lengths holds speeds a tick interval (some (arrival, arrives-in)) →
-      Leaves a head arrival arrives-in t u →
-      ArcOffered fences lengths holds speeds a head tick interval t u
+pub data ArcOffered (R : Roads) (a head tick interval : ℕ) : Tables → Tables → Type 0 where
+  missed : {t : Tables} → ArrivesOn R a tick interval none → ArcOffered R a head tick interval t t
+  offered : {arrival arrives-in : ℕ} {t u : Tables} → ArrivesOn R a tick interval (some (arrival, arrives-in)) →
+      Leaves a head arrival arrives-in t u → ArcOffered R a head tick interval t u
 
 -- ---- The offers of a junction's arcs
 
 -- What they are handed: an arc or none, and links that lead from each arc to a later one or to none.
-pub record Drivable (first : ℕ) (fences heads lengths holds speeds next : List ℕ) (before : Tables) : Type 0 where
+pub record Drivable (R : Roads) (heads next : List ℕ) (first : ℕ) (before : Tables) : Type 0 where
   pub few-arcs : length heads ≤ maxArcs
-  pub few-intervals : length fences ≤ maxIntervals
-  pub lengths-long : length lengths ≡ length heads
-  pub holds-long : length holds ≡ length heads
-  pub speeds-long : length speeds ≡ length heads * length fences
+  pub few-intervals : length (R .fences) ≤ maxIntervals
+  pub lengths-long : length (R .lengths) ≡ length heads
+  pub holds-long : length (R .holds) ≡ length heads
+  pub speeds-long : length (R .speeds) ≡ length heads * length (R .fences)
   pub few-junctions : length (before .labels) ≤ maxJunctions
   pub predecessors-long : length (before .predecessors) ≡ length (before .labels)
   pub head-below : (a : ℕ) → a < length heads → getD heads a 0 < length (before .labels)
@@ -101,12 +94,12 @@ pub record Drivable (first : ℕ) (fences heads lengths holds speeds next : List
   pub tournament : Tournament (before .tree)
 
 -- From arc a on along the links, each arc to a head that is not settled has been driven, one after the other.
-pub data AllOffered (fences heads lengths holds speeds next : List ℕ) (settled : List Bool) (tick interval : ℕ) : ℕ → Tables → Tables → Type 0 where
-  none-left : {t : Tables} → AllOffered fences heads lengths holds speeds next settled tick interval noArc t t
+pub data AllOffered (R : Roads) (heads next : List ℕ) (settled : List Bool) (tick interval : ℕ) : ℕ → Tables → Tables → Type 0 where
+  none-left : {t : Tables} → AllOffered R heads next settled tick interval noArc t t
   skips : {a : ℕ} {t u : Tables} → (a ≡ noArc → ⊥) → getD settled (getD heads a 0) false ≡ true →
-      AllOffered fences heads lengths holds speeds next settled tick interval (getD next a 0) t u →
-      AllOffered fences heads lengths holds speeds next settled tick interval a t u
+      AllOffered R heads next settled tick interval (getD next a 0) t u →
+      AllOffered R heads next settled tick interval a t u
   offers : {a : ℕ} {t v u : Tables} → (a ≡ noArc → ⊥) → getD settled (getD heads a 0) false ≡ false →
-      ArcOffered fences lengths holds speeds a (getD heads a 0) tick interval t v →
-      AllOffered fences heads lengths holds speeds next settled tick interval (getD next a 0) v u →
-      AllOffered fences heads lengths holds speeds next settled tick interval a t u
+      ArcOffered R a (getD heads a 0) tick interval t v →
+      AllOffered R heads next settled tick interval (getD next a 0) v u →
+      AllOffered R heads next settled tick interval a t u

@@ -7,22 +7,22 @@ use lib.ListN.{length, getD, set, replicate}
 use Rattle.model.specs.Ticks.{never}
 use Rattle.model.specs.Limits.{maxJunctions}
 use Rattle.model.specs.Intervals.{intervalOf}
+use Rattle.model.specs.Network.{Roads}
 use Rattle.tournament.specs.Tournament.{Entered}
 use Rattle.dijkstra.specs.code.Offering.{Tables, tables, Leaves, Drivable, AllOffered}
 
 -- What it is handed: a junction that has a label, and its arcs.
-pub record Settleable (junction : ℕ) (fences heads lengths holds speeds first next : List ℕ) (before : Tables) : Type 0 where
+pub record Settleable (R : Roads) (heads first next : List ℕ) (junction : ℕ) (before : Tables) : Type 0 where
   pub has-label : junction < length (before .labels)
-  pub drivable : Drivable (getD first junction 0) fences heads lengths holds speeds next before
+  pub drivable : Drivable R heads next (getD first junction 0) before
 
 -- What it leaves. The junction leaves the tournament before its arcs are driven, from its label and the interval that is kept beside it.
-pub record Settles (junction : ℕ) (fences heads lengths holds speeds first next : List ℕ) (settled settled′ : List Bool) (before after : Tables) : Type 0 where
+pub record Settles (R : Roads) (heads first next : List ℕ) (junction : ℕ) (settled settled′ : List Bool) (before after : Tables) : Type 0 where
   pub settled-is : settled′ ≡ set settled junction true
   pub tree : List ℕ
   pub out : Entered (before .tree) junction never tree
-  pub offered : AllOffered fences heads lengths holds speeds next (set settled junction true) (getD (before .labels) junction 0)
-      (getD (before .intervals) junction 0) (getD first junction 0)
-      (tables (before .labels) (before .predecessors) (before .intervals) tree) after
+  pub offered : AllOffered R heads next (set settled junction true) (getD (before .labels) junction 0) (getD (before .intervals) junction 0)
+      (getD first junction 0) (tables (before .labels) (before .predecessors) (before .intervals) tree) after
 
 -- ---- The intervals beside the labels
 

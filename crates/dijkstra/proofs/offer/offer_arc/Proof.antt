@@ -4,8 +4,9 @@ use mathlib.Core.Path.{sym, ap, _∙_}
 use native.Mathlib.Nat.{add-sub-cancel-left}
 use native.Mathlib.Omega.{arith}
 use mir.Facts.{fits-widen}
-use denote.Ref.{now}
 use Rattle.model.specs.Ticks.{arrivedAt}
+use Rattle.model.specs.Lent.{roadsIn}
+use Rattle.model.specs.Network.{speedOn, driveOf}
 use Rattle.dijkstra.specs.code.Offering.{ArrivesOn, missed, offered}
 use Rattle.dijkstra.proofs.offer.offer_arc.Statement.{statement}
 use Rattle.dijkstra.proofs.offer.offer_arc.Tie as tie
@@ -13,8 +14,9 @@ use Rattle.dijkstra.proofs.offer.offer_arc.Tie as tie
 abbrev start : tie.After-drive-with-hold → tie.Start
 start c = c .before .before .before .before .before .before .before .before .before .before
 
-driven : (c : tie.After-drive-with-hold) → ArrivesOn (now (start c .args .fences)) (now (start c .args .lengths)) (now (start c .args .holds)) (now (start c .args .speeds)) (start c .args .a)
+driven : (c : tie.After-drive-with-hold) → ArrivesOn (roadsIn (start c .args .fences) (start c .args .lengths) (start c .args .holds) (start c .args .speeds)) (start c .args .a)
     (start c .args .tick) (start c .args .interval) (arrivedAt (c .drive-with-hold .result))
+unfolding driveOf speedOn
 driven c = rw add-sub-cancel-left at (c .drive-with-hold .ensures .0)
 
 cast-hold : tie.Need-cast-hold

@@ -7,6 +7,7 @@ use mir.Facts.{fits-widen}
 use denote.Ref.{now}
 use borrow.Author.Tests.{not-true, not-false}
 use Rattle.model.specs.Labels.{noArc}
+use Rattle.model.specs.Network.{roads}
 use Rattle.dijkstra.specs.code.Offering.{tables, Offerable, none-left}
 use Rattle.dijkstra.proofs.Links.{Onward, onward-starts, onward-arc, onward-offerable, onward-skips, onward-offers, next-higher}
 use Rattle.dijkstra.proofs.offer.offer_arcs.Statement.{statement}
@@ -14,7 +15,7 @@ use Rattle.dijkstra.proofs.offer.offer_arcs.Tie as tie
 
 abbrev Inv-loop : tie.InvT-loop
 Inv-loop first tick interval fences heads lengths holds speeds next settled labels₀ predecessors₀ intervals₀ tree₀ a₀ labels predecessors intervals tree a =
-    Onward first fences heads lengths holds speeds next (tables labels₀ predecessors₀ intervals₀ tree₀) settled tick interval a (tables labels predecessors intervals tree)
+    Onward (roads fences lengths holds speeds) heads next first (tables labels₀ predecessors₀ intervals₀ tree₀) settled tick interval a (tables labels predecessors intervals tree)
 
 abbrev μ-loop : tie.MeasureT-loop
 μ-loop first tick interval fences heads lengths holds speeds next settled labels₀ predecessors₀ intervals₀ tree₀ a₀ labels predecessors intervals tree a = noArc - a

@@ -14,15 +14,10 @@ use Rattle.arc_arrival.proofs.ArcRules.{by-rules, engine-replies, inter
 use Rattle.arc_arrival.proofs.arc.arc_arrival.Statement.{statement}
 use Rattle.arc_arrival.proofs.arc.arc_arrival.Tie as tie
 
-abbrev start : tie.After-interval-count-keeps → tie.Start
-start c = c .before .before .before
-
-abbrev counted : tie.After-drive-with-hold → tie.After-interval-count-keeps
-counted d = d .before .before .before .before .before .before .before .before .before .before .before .before .before
-
 abbrev kept₀ : tie.After-interval-count-keeps → KeptSoFar 0
 kept₀ c =
-    let a = start c .args in
+    let begun : tie.Start = search in
+    let a = begun .args in
     none-asked _ _ (by-rules (a .departure .number) (a .interval) (a .metres) (a .hold) (now (a .fences)) (now (a .speeds)))
 
 abbrev kept₁ : tie.Else1 → KeptSoFar 1
@@ -53,6 +48,16 @@ kept₈ c = next-kept (kept₇ (c .before .before)) (as-test (c .before .contain
 driven : (d : tie.After-drive-with-hold) {told : Arrival} → d .drive-with-hold .result ≡ told → replied (arrivedAt told) ≡ kept₈ (d .before) .answer
 driven d same = engine-replies _ _ _ _ _ _ (kept₈ (d .before) .kept) (d .drive-with-hold .ensures .0) same
 
+-- The arrival's interval is one of the plan's, which has few.
+cast-interval : tie.Need-cast-t24
+cast-interval c =
+    let begun : tie.Start = search in
+    let drove : tie.After-drive-with-hold = search in
+    interval-fits (now (begun .args .fences)) (kept₈ (drove .before) .kept .0) (drove .drive-with-hold .ensures .1) (c .before .arrival .given .1)
+
+returns-9 : tie.Need-returns-9
+returns-9 c = let drove : tie.After-drive-with-hold = search in driven drove (c .before .arrival .given .1)
+
 pub arc-arrival-spec : {M : Type 1} → statement M
 arc-arrival-spec =
     tie.close
@@ -72,9 +77,7 @@ arc-arrival-spec =
     (λ c. next-refused (kept₇ (c .before .before)) (as-test (c .before .contains .ensures) (c .if8 .taken)))
     (λ c κs. search needs)
     (λ c. search needs)
-    (λ c.
-    let d = c .before .before .before in
-    interval-fits (now (start (counted d) .args .fences)) (kept₈ (d .before) .kept .0) (d .drive-with-hold .ensures .1) (c .before .arrival .given .1))
+    cast-interval
     (λ c. search needs)
-    (λ c. driven (c .before .before .before) (c .before .arrival .given .1))
+    returns-9
     (λ c. driven (c .before .before) (c .enum-told .given .1)))

@@ -18,15 +18,18 @@ abbrev μ-loop : tie.MeasureT-loop
 
 mul-arc-ends-keep-2 : tie.Need-mul-arc-ends-keep-2 Inv-loop μ-loop
 mul-arc-ends-keep-2 c =
-    let start = c .before .before .before .before .before in
-    omega (arith, start .pre, start .good, c .before .loop-test .taken)
+    let begun : tie.Start Inv-loop μ-loop = search in
+    omega (arith, begun .pre, begun .good, c .before .loop-test .taken)
+
+shared-slice-read-arc-ends-keep-2 : tie.Need-shared-slice-read-arc-ends-keep-2 Inv-loop μ-loop
+shared-slice-read-arc-ends-keep-2 c = let begun : tie.Start Inv-loop μ-loop = search in omega (arith, begun .pre)
 
 loop-again : tie.Need-loop-again Inv-loop μ-loop
 loop-again c =
-    let asked = c in
-    let turn = asked .before .before .before .before in
-    let flag = asked .both .ensures ∙ ap (λ arc. turn .before .loop .kept && arc) (asked .before .arc-ends-keep .ensures) in
-    ends-go-on _ _ _ (turn .before .loop .kept) _ (turn .before .loop .inv) (turn .before .before .before .before .pre) (turn .loop-test .taken) flag
+    let begun : tie.Start Inv-loop μ-loop = search in
+    let turn : tie.In-loop Inv-loop μ-loop = search in
+    let flag = c .both .ensures ∙ ap (λ arc. turn .before .loop .kept && arc) (c .before .arc-ends-keep .ensures) in
+    ends-go-on _ _ _ (turn .before .loop .kept) _ (turn .before .loop .inv) (begun .pre) (turn .loop-test .taken) flag
 
 pub ends-keep-spec : {M : Type 1} → statement M
 ends-keep-spec =
@@ -38,7 +41,7 @@ ends-keep-spec =
     (λ c. search needs)
     (λ c. search needs)
     mul-arc-ends-keep-2
-    (λ c. omega (arith, c .before .before .before .before .before .before .pre))
+    shared-slice-read-arc-ends-keep-2
     (λ c κs. search needs)
     (λ c κs. search needs)
     (λ c. search needs)

@@ -26,7 +26,7 @@ returns-3 : tie.Need-returns-3
 returns-3 c = simp (eq-eqb _ _ (c .before .before .if1 .left), eq-eqb _ _ (c .before .if2 .left), ne-eqb _ _ (c .if3 .taken))
 
 mul-result : tie.Need-mul-result
-mul-result c = let handed = c .before .before .before .pre in short-product _ _ (omega (arith, handed)) (omega (arith, handed))
+mul-result c = let begun : tie.Start = search in short-product _ _ (omega (arith, begun .pre)) (omega (arith, begun .pre))
 
 returns-4 : tie.Need-returns-4
 returns-4 c = rest-decides (eq-eqb _ _ (c .before .before .if1 .left)) (eq-eqb _ _ (c .before .if2 .left)) (eq-eqb _ _ (c .if3 .left))

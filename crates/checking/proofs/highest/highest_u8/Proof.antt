@@ -16,7 +16,7 @@ loop-holds : tie.Need-loop-holds Inv-loop μ-loop
 loop-holds c = high-starts _
 
 loop-again : tie.Need-loop-again Inv-loop μ-loop
-loop-again c = high-goes-on (c .before .before .before .loop .inv) (c .greater-u8 .ensures) (c .before .before .loop-test .taken)
+loop-again c = let turn : tie.In-loop Inv-loop μ-loop = search in high-goes-on (turn .before .loop .inv) (c .greater-u8 .ensures) (turn .loop-test .taken)
 
 returns : tie.Need-returns Inv-loop μ-loop
 returns c = high-ends (c .before .loop .inv) (c .loop-test .left)

@@ -2,9 +2,9 @@
 -- rule before it that it is kept (`kept₁` to `kept₉`).
 use borrow.Author.Needs.{needs}
 use mathlib.Core.Path.{_≡_, refl}
-use denote.Ref.{now}
 use borrow.Author.Tests.{le-ltb, lt-ltb}
-use Rattle.model.specs.Network.{Network, network}
+use Rattle.model.specs.Network.{Network}
+use Rattle.model.specs.Lent.{networkIn}
 use Rattle.model.specs.NetworkRules.{networkRules, networkCheck}
 use Rattle.model.specs.Rules.{firstBroken}
 use Rattle.model.proofs.Rules.{kept-count}
@@ -20,8 +20,9 @@ by-rules n = refl
 
 abbrev N : tie.After-junction-count-keeps → Network
 N c =
-    let s = c .before .before .before .before .before .before .before in
-    network (s .args .junctions) (now (s .args .fences)) (now (s .args .tails)) (now (s .args .heads)) (now (s .args .lengths)) (now (s .args .holds)) (now (s .args .speeds))
+    let begun : tie.Start = search in
+    let args = begun .args in
+    networkIn (args .junctions) (args .fences) (args .tails) (args .heads) (args .lengths) (args .holds) (args .speeds)
 
 abbrev kept₀ : tie.After-junction-count-keeps → KeptSoFar 0
 kept₀ c = none-asked tt _ (by-rules (N c))
@@ -54,11 +55,14 @@ abbrev kept₉ : tie.Else9 → KeptSoFar 9
 kept₉ c = next-kept (kept₈ (c .before .before)) (as-test (c .before .holds-keep .ensures) (c .if9 .left))
 
 tables-agree-requires : tie.Need-tables-agree-requires
-tables-agree-requires c κs = (kept-count (N (c .before .before .before .before) .fences) (kept₂ (c .before) .kept .1 .0) .1, c .if3 .left)
+tables-agree-requires c κs =
+    let counted : tie.After-junction-count-keeps = search in
+    (kept-count (N counted .fences) (kept₂ (c .before) .kept .1 .0) .1, c .if3 .left)
 
 ends-keep-requires : tie.Need-ends-keep-requires
 ends-keep-requires c κs =
-    let n = N (c .before .before .before .before .before .before .before .before) in
+    let counted : tie.After-junction-count-keeps = search in
+    let n = N counted in
     kept-tables (n .fences) (n .tails) (n .heads) (n .lengths) (n .holds) (n .speeds) (kept₄ (c .before .before) .kept .1 .1 .1 .0) .0
 
 pub network-check-spec : {M : Type 1} → statement M

@@ -4,9 +4,9 @@ use Prim.Native.Nat.{ℕ, suc}
 use mathlib.Core.Path.{_≡_, refl, sym, ap, _∙_}
 use mathlib.Core.Bool.{not}
 use lib.ListN.{length}
-use denote.Ref.{now}
 use borrow.Author.Tests.{lt-ltb, le-ltb}
-use Rattle.model.specs.Network.{Network, network}
+use Rattle.model.specs.Network.{Network}
+use Rattle.model.specs.Lent.{networkIn}
 use Rattle.model.specs.NetworkRules.{networkRules}
 use Rattle.model.specs.Rules.{firstBroken}
 use Rattle.checking.specs.NetworkCheck.{outcomeOf}
@@ -16,13 +16,11 @@ use Rattle.checking.proofs.QuestionRules.{network-keeps, network-refuse
 use Rattle.checking.proofs.question.question_check.Statement.{statement}
 use Rattle.checking.proofs.question.question_check.Tie as tie
 
-abbrev start : tie.After-enum-told → tie.Start
-start c = c .before .before .before .before .before .before .before .before .before
+abbrev begun : tie.After-enum-told → tie.Start
+begun c = search
 
 abbrev N : tie.After-enum-told → Network
-N c =
-    let s = start c in
-    network (s .args .junctions) (now (s .args .fences)) (now (s .args .tails)) (now (s .args .heads)) (now (s .args .lengths)) (now (s .args .holds)) (now (s .args .speeds))
+N c = let args = begun c .args in networkIn (args .junctions) (args .fences) (args .tails) (args .heads) (args .lengths) (args .holds) (args .speeds)
 
 by-rules : (n : Network) (source departure : ℕ) → questionCheck n source departure ≡ firstBroken (questionRules n source departure) tt
 unfolding questionCheck
@@ -31,8 +29,8 @@ by-rules n source departure = refl
 -- the network's rules are kept, and then those of this check, one by one
 abbrev network-kept : (c : tie.After-enum-told) → KeptSoFar (length (networkRules (N c)))
 network-kept c =
-    let source = start c .args .source in
-    let departure = start c .args .tick in
+    let source = begun c .args .source in
+    let departure = begun c .args .tick in
     others-kept tt (networkRules (N c)) (startRules (N c) source departure) (by-rules (N c) source departure)
     (network-keeps (N c) (c .before .before .network-check .ensures) (c .enum-told .given .1))
 
@@ -43,7 +41,9 @@ abbrev departure-kept : (c : tie.Else2) → KeptSoFar (suc (suc (length (network
 departure-kept c = next-kept (source-kept (c .before)) (ap not (lt-ltb _ _ (c .if2 .left)))
 
 returns : tie.Need-returns
-returns c = network-refuses _ _ _ _ (sym (ap outcomeOf (c .before .refusal .given .1)) ∙ c .before .before .before .network-check .ensures)
+returns c =
+    let asked : tie.After-network-check = search in
+    network-refuses _ _ _ _ (sym (ap outcomeOf (c .before .refusal .given .1)) ∙ asked .network-check .ensures)
 
 pub question-check-spec : {M : Type 1} → statement M
 question-check-spec =

@@ -5,6 +5,9 @@ use Rattle.checking.proofs.Scan.{none-keep, first-fails, first-keeps}
 use Rattle.checking.proofs.rule.fences_keep.Statement.{statement}
 use Rattle.checking.proofs.rule.fences_keep.Tie as tie
 
+returns-3 : tie.Need-returns-3
+returns-3 c = let some-fence : tie.Else1 = search in c .fences-rise .ensures ∙ first-keeps _ (some-fence .if1 .left) (c .before .if2 .left)
+
 pub fences-keep-spec : {M : Type 1} → statement M
 fences-keep-spec =
     tie.close
@@ -13,4 +16,4 @@ fences-keep-spec =
     (λ c. search needs)
     (λ c. first-fails _ (c .before .before .if1 .left) (c .if2 .taken))
     (λ c κs. search needs)
-    (λ c. c .fences-rise .ensures ∙ first-keeps _ (c .before .before .before .if1 .left) (c .before .if2 .left)))
+    returns-3)

@@ -20,12 +20,12 @@ loop-holds c = refl
 
 returns : tie.Need-returns Inv-loop μ-loop
 returns c =
-    let turn = c .before .before .before in
+    let turn : tie.In-loop Inv-loop μ-loop = search in
     every-fails lengthKeeps _ _ (turn .before .loop .inv) (turn .loop-test .taken) (test-fails (c .before .length-keeps .ensures) (c .if1 .taken))
 
 loop-again : tie.Need-loop-again Inv-loop μ-loop
 loop-again c =
-    let turn = c .before .before .before in
+    let turn : tie.In-loop Inv-loop μ-loop = search in
     every-goes-on lengthKeeps _ _ (turn .before .loop .inv) (turn .loop-test .taken) (test-passes (c .before .length-keeps .ensures) (c .if1 .left))
 
 returns-2 : tie.Need-returns-2 Inv-loop μ-loop

@@ -29,28 +29,23 @@ abbrev μ-loop : tie.MeasureT-loop
 μ-loop junctions fences tails heads lengths holds speeds source departure labels₀ predecessors₀ first next settled₀ tree₀ intervals₀ labels predecessors settled tree intervals =
     waiting settled
 
--- the start, from the places that follow it
-abbrev start : tie.After-clear Inv-loop μ-loop → tie.Start Inv-loop μ-loop
-start c = c .before .before .before .before .before .before .before .before .before .before .before
-
-abbrev cleared : tie.After-link-arcs Inv-loop μ-loop → tie.After-clear Inv-loop μ-loop
-cleared c = c .before .before .before .before .before .before .before
-
-abbrev start-of : tie.At-loop Inv-loop μ-loop → tie.Start Inv-loop μ-loop
-start-of c = start (cleared (c .before .before .before .before .before))
+abbrev begun : tie.At-loop Inv-loop μ-loop → tie.Start Inv-loop μ-loop
+begun c = search
 
 source-known : (s : tie.Start Inv-loop μ-loop) → s .args .source < 200
 source-known s = omega (arith, s .pre .source-below, s .pre .tables-fit .junctions-fit)
 
 -- the nearest junction, where there is one
-abbrev at-loop : tie.After-junction-of Inv-loop μ-loop → tie.At-loop Inv-loop μ-loop
-at-loop c = c .before .before .before .before
+abbrev round : tie.After-junction-of Inv-loop μ-loop → tie.At-loop Inv-loop μ-loop
+round c = search
 
-nearest : (c : tie.After-junction-of Inv-loop μ-loop) → Waits (at-loop c .loop .labels) (at-loop c .loop .settled) (c .junction-of .result)
-    × (ByLast (at-loop c .loop .labels) → Nearest (at-loop c .loop .labels) (at-loop c .loop .settled) (c .junction-of .result))
+nearest : (c : tie.After-junction-of Inv-loop μ-loop) →
+    let l = round c .loop in
+    let junction = c .junction-of .result in
+    Waits (l .labels) (l .settled) junction × (ByLast (l .labels) → Nearest (l .labels) (l .settled) junction)
 nearest c =
-    let s = at-loop c .loop .inv .standing in
-    let few = start-of (at-loop c) .pre .tables-fit .junctions-fit in
+    let s = round c .loop .inv .standing in
+    let few = begun (round c) .pre .tables-fit .junctions-fit in
     least-waits (s .queued)
     (omega (arith, s .labels-long))
     (c .before .before .least-key .ensures (s .queued .tournament))
@@ -58,101 +53,100 @@ nearest c =
     (c .junction-of .ensures)
 
 below : (c : tie.After-junction-of Inv-loop μ-loop) → c .junction-of .result < 200
-below c = omega (arith, nearest c .0 .inside, at-loop c .loop .inv .standing .labels-long, start-of (at-loop c) .pre .tables-fit .junctions-fit)
-
-abbrev junction-at : tie.After-tree3 Inv-loop μ-loop → tie.After-junction-of Inv-loop μ-loop
-junction-at c = c .before .before .before .before .before .before .before
-
-abbrev settling : tie.After-slice-known6 Inv-loop μ-loop → tie.After-settle Inv-loop μ-loop
-settling c = c .before .before .before .before
+below c = omega (arith, nearest c .0 .inside, round c .loop .inv .standing .labels-long, begun (round c) .pre .tables-fit .junctions-fit)
 
 clear-requires : tie.Need-clear-requires Inv-loop μ-loop
 clear-requires c κs =
-    let q = c .before .before .before .before .before .before .before .before .before .before .pre in
-    q .predecessors-long ∙ sym (q .labels-long)
+    let s : tie.Start Inv-loop μ-loop = search in
+    s .pre .predecessors-long ∙ sym (s .pre .labels-long)
 
 mul-labels : tie.Need-mul-labels Inv-loop μ-loop
-mul-labels c = omega (arith, source-known (start (c .before .before .before .before)))
+mul-labels c = let s : tie.Start Inv-loop μ-loop = search in omega (arith, source-known s)
 
 slice-write-labels : tie.Need-slice-write-labels Inv-loop μ-loop
 slice-write-labels c =
-    let a = c .before .before .before .before in
-    let s = start a in
-    let long = ap length (a .clear .ensures .0) ∙ length-replicate (length (now (s .args .labels))) never in
+    let s : tie.Start Inv-loop μ-loop = search in
+    let cleared : tie.After-clear Inv-loop μ-loop = search in
+    let long = ap length (cleared .clear .ensures .0) ∙ length-replicate (length (now (s .args .labels))) never in
     omega (arith, long, s .pre .labels-long, s .pre .source-below)
 
 link-arcs-requires : tie.Need-link-arcs-requires Inv-loop μ-loop
 link-arcs-requires c κs =
-    let fit = start (c .before .before .before .before .before .before) .pre .tables-fit in
+    let s : tie.Start Inv-loop μ-loop = search in
+    let fit = s .pre .tables-fit in
     (fit .arcs-fit, ((λ b h. omega (arith, fit .tail-below b h, fit .junctions-fit)), (refl, refl)))
 
 cast-intervals : tie.Need-cast-intervals Inv-loop μ-loop
 unfolding intervalOf
 cast-intervals c =
-    let s = start (cleared (c .before .before .before .before)) in
+    let s : tie.Start Inv-loop μ-loop = search in
     let few = passed-at-most (now (s .args .fences)) (timeOfDay (s .args .departure)) in
     omega (arith, c .interval-of .ensures, few, s .pre .tables-fit .intervals-fit)
 
 array-write-intervals : tie.Need-array-write-intervals Inv-loop μ-loop
-array-write-intervals c = source-known (start (cleared (c .before .before .before .before)))
+array-write-intervals c = let s : tie.Start Inv-loop μ-loop = search in source-known s
 
 loop-holds : tie.Need-loop-holds Inv-loop μ-loop
 loop-holds c =
-    let e = c .before in
-    let l = e .before .before .before in
-    let clear = cleared l .clear .ensures in
-    let s = start (cleared l) in
-    let labels-are = ap (λ labels. set labels (s .args .source) (s .args .departure)) (clear .0 ∙ ap (λ n. replicate n never) (s .pre .labels-long)) in
-    let predecessors-are = clear .1 ∙ ap (λ n. replicate n noArc) (s .pre .labels-long) in
-    let entered = e .enter .ensures (equal-keys never) (omega (arith, source-known s)) in
+    let s : tie.Start Inv-loop μ-loop = search in
+    let cleared : tie.After-clear Inv-loop μ-loop = search in
+    let linked : tie.After-link-arcs Inv-loop μ-loop = search in
+    let queued : tie.After-enter Inv-loop μ-loop = search in
+    let (no-labels, no-predecessors) = cleared .clear .ensures in
+    let labels-are = ap (λ labels. set labels (s .args .source) (s .args .departure)) (no-labels ∙ ap (λ n. replicate n never) (s .pre .labels-long)) in
+    let predecessors-are = no-predecessors ∙ ap (λ n. replicate n noArc) (s .pre .labels-long) in
+    let entered = queued .enter .ensures (equal-keys never) (omega (arith, source-known s)) in
     record {
-      linked = l .link-arcs .ensures;
-      standing = stands-first (s .pre .source-below) (s .pre .in-time) labels-are predecessors-are (e .before .key-of .ensures) entered;
+      linked = linked .link-arcs .ensures;
+      standing = stands-first (s .pre .source-below) (s .pre .in-time) labels-are predecessors-are (queued .before .key-of .ensures) entered;
       round = λ q. round-starts q labels-are predecessors-are (c .interval-of .ensures) refl;
     }
 
 settle-requires : tie.Need-settle-requires Inv-loop μ-loop
 settle-requires c κs =
-    let j = junction-at c in
-    let b = at-loop j .loop .inv in
+    let j : tie.After-junction-of Inv-loop μ-loop = search in
+    let b = round j .loop .inv in
     record {
       has-label = nearest j .0 .inside;
-      drivable = drivable (start-of (at-loop j) .pre .tables-fit) (b .linked) (b .standing) (below j);
+      drivable = drivable (begun (round j) .pre .tables-fit) (b .linked) (b .standing) (below j);
     }
 
 loop-less : tie.Need-loop-less Inv-loop μ-loop
 loop-less c =
-    let s = settling c in
-    let j = junction-at (s .before) in
+    let j : tie.After-junction-of Inv-loop μ-loop = search in
+    let s : tie.After-settle Inv-loop μ-loop = search in
     rw (s .settle .ensures .settled-is)
-    (waiting-falls _ _ (omega (arith, below j, at-loop j .loop .inv .standing .settled-long)) (nearest j .0 .unsettled))
+    (waiting-falls _ _ (omega (arith, below j, round j .loop .inv .standing .settled-long)) (nearest j .0 .unsettled))
 
 loop-again : tie.Need-loop-again Inv-loop μ-loop
 loop-again c =
-    let s = settling c in
-    let j = junction-at (s .before) in
-    between-goes-on (start-of (at-loop j) .pre .tables-fit) (at-loop j .loop .inv) (below j) (nearest j .0) (nearest j .1) (s .settle .ensures)
+    let j : tie.After-junction-of Inv-loop μ-loop = search in
+    let s : tie.After-settle Inv-loop μ-loop = search in
+    between-goes-on (begun (round j) .pre .tables-fit) (round j .loop .inv) (below j) (nearest j .0) (nearest j .1) (s .settle .ensures)
 
 same-length : tie.Need-same-length Inv-loop μ-loop
-same-length c = c .before .before .before .loop .inv .standing .labels-long ∙ sym (start-of (c .before .before .before) .pre .labels-long)
+same-length c = let l : tie.At-loop Inv-loop μ-loop = search in l .loop .inv .standing .labels-long ∙ sym (begun l .pre .labels-long)
 
 same-length-2 : tie.Need-same-length-2 Inv-loop μ-loop
-same-length-2 c = c .before .before .before .loop .inv .standing .predecessors-long ∙ sym (start-of (c .before .before .before) .pre .predecessors-long)
+same-length-2 c = let l : tie.At-loop Inv-loop μ-loop = search in l .loop .inv .standing .predecessors-long ∙ sym (begun l .pre .predecessors-long)
 
 abbrev N : tie.Start Inv-loop μ-loop → Network
 N s = network (s .args .junctions) (now (s .args .fences)) (now (s .args .tails)) (now (s .args .heads)) (now (s .args .lengths)) (now (s .args .holds)) (now (s .args .speeds))
 
 -- no junction is left
+abbrev last-round : tie.Then1 Inv-loop μ-loop → tie.At-loop Inv-loop μ-loop
+last-round c = search
+
 ended : (c : tie.Then1 Inv-loop μ-loop) →
-    let l = c .before .before .before in
-    let s = start-of l in
+    let l = last-round c in
+    let s = begun l in
     Taken (N s) (s .args .source) (s .args .departure) →
     (l .loop .labels ≡ labelsOf (netOf (N s)) (s .args .source) (s .args .departure))
     × (l .loop .predecessors ≡ predecessorsOf (netOf (N s)) (s .args .source) (s .args .departure))
 ended c q =
-    let b = c .before .before .before .loop .inv in
+    let b = last-round c .loop .inv in
     let least = c .before .least-key .ensures (b .standing .queued .tournament) in
-    round-ends {N = N (start-of (c .before .before .before))} q (b .round q) (b .standing .queued) least (omega (arith, c .if1 .taken))
+    round-ends {N = N (begun (last-round c))} q (b .round q) (b .standing .queued) least (omega (arith, c .if1 .taken))
 
 returns : tie.Need-returns Inv-loop μ-loop
 returns c = ((λ q. ended c (q .taken) .0), (λ q. ended c (q .taken) .1))

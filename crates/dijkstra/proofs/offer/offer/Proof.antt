@@ -7,31 +7,30 @@ use Rattle.dijkstra.proofs.Offered.{leaves-lower, leaves-tie, leaves-ti
 use Rattle.dijkstra.proofs.offer.offer.Statement.{statement}
 use Rattle.dijkstra.proofs.offer.offer.Tie as tie
 
-abbrev start : tie.After-slice-known3 → tie.Start
-start c = c .before .before .before
-
-abbrev before : tie.After-slice-known3 → Tables
-before c = tables (now (start c .args .labels)) (now (start c .args .predecessors)) (now (start c .args .intervals)) (now (start c .args .tree))
+abbrev before : tie.Start → Tables
+before s = tables (now (s .args .labels)) (now (s .args .predecessors)) (now (s .args .intervals)) (now (s .args .tree))
 
 returns : tie.Need-returns
 returns c =
-    let lowers = c .before .before .before in
-    let s = start (lowers .before) in
-    let entered = c .enter .ensures (s .pre .tournament) (omega (arith, s .pre .is-junction)) in
-    leaves-lower (before (lowers .before)) _ _ _ _ (lowers .if1 .taken) (c .before .key-of .ensures) entered
+    let begun : tie.Start = search in
+    let lowers : tie.Then1 = search in
+    let entered = c .enter .ensures (begun .pre .tournament) (omega (arith, begun .pre .is-junction)) in
+    leaves-lower (before begun) _ _ _ _ (lowers .if1 .taken) (c .before .key-of .ensures) entered
 
 returns-2 : tie.Need-returns-2
 returns-2 c =
-    let tied = c .before .before in
-    leaves-tie (before (tied .before .before)) _ _ _ _ (tied .before .if1 .left) (tied .if2 .taken) (c .if3 .taken)
+    let begun : tie.Start = search in
+    let tied : tie.Then2 = search in
+    leaves-tie (before begun) _ _ _ _ (tied .before .if1 .left) (tied .if2 .taken) (c .if3 .taken)
 
 returns-3 : tie.Need-returns-3
 returns-3 c =
-    let tied = c .before .before in
-    leaves-tie-kept (before (tied .before .before)) _ _ _ _ (tied .before .if1 .left) (tied .if2 .taken) (c .if3 .left)
+    let begun : tie.Start = search in
+    let tied : tie.Then2 = search in
+    leaves-tie-kept (before begun) _ _ _ _ (tied .before .if1 .left) (tied .if2 .taken) (c .if3 .left)
 
 returns-4 : tie.Need-returns-4
-returns-4 c = leaves-later (before (c .before .before)) _ _ _ _ (c .before .if1 .left) (c .if2 .left)
+returns-4 c = let begun : tie.Start = search in leaves-later (before begun) _ _ _ _ (c .before .if1 .left) (c .if2 .left)
 
 pub offer-spec : {M : Type 1} → statement M
 offer-spec =

@@ -11,11 +11,12 @@ use Rattle.dijkstra.specs.code.Offering.{ArrivesOn, missed, offered}
 use Rattle.dijkstra.proofs.offer.offer_arc.Statement.{statement}
 use Rattle.dijkstra.proofs.offer.offer_arc.Tie as tie
 
-abbrev start : tie.After-drive-with-hold → tie.Start
-start c = c .before .before .before .before .before .before .before .before .before .before
+abbrev begun : tie.After-drive-with-hold → tie.Start
+begun c = search
 
-driven : (c : tie.After-drive-with-hold) → ArrivesOn (roadsIn (start c .args .fences) (start c .args .lengths) (start c .args .holds) (start c .args .speeds)) (start c .args .a)
-    (start c .args .tick) (start c .args .interval) (arrivedAt (c .drive-with-hold .result))
+-- what the engine comes to is the arrival on the arc
+driven : (c : tie.After-drive-with-hold) → let args = begun c .args in
+    ArrivesOn (roadsIn (args .fences) (args .lengths) (args .holds) (args .speeds)) (args .a) (args .tick) (args .interval) (arrivedAt (c .drive-with-hold .result))
 unfolding driveOf speedOn
 driven c = rw add-sub-cancel-left at (c .drive-with-hold .ensures .0)
 
@@ -25,19 +26,20 @@ cast-hold c = fits-widen tt (c .shared-slice-known6 .given _)
 -- The arrival's interval is one of the plan's, which has few.
 cast-noted : tie.Need-cast-noted
 cast-noted c =
-    let told = c .before in
-    let d = told .before .before in
-    omega (arith, rw (told .arrival .given .1) at (d .drive-with-hold .ensures .1), start d .pre .0 .few-intervals)
+    let drove : tie.After-drive-with-hold = search in
+    omega (arith, rw (c .before .arrival .given .1) at (drove .drive-with-hold .ensures .1), begun drove .pre .0 .few-intervals)
 
 returns : tie.Need-returns
 returns c =
-    let offering = c .before .before .before .before in
-    let arrival = offering .before .before .before .before .before .before in
-    let told = arrival .arrival .given .1 in
-    offered (λ kept. sym (ap arrivedAt told) ∙ driven (arrival .before .before) kept) (offering .offer .ensures)
+    let drove : tie.After-drive-with-hold = search in
+    let arrived : tie.After-arrival = search in
+    let made : tie.After-offer = search in
+    offered (λ kept. sym (ap arrivedAt (arrived .arrival .given .1)) ∙ driven drove kept) (made .offer .ensures)
 
 returns-2 : tie.Need-returns-2
-returns-2 c = missed (λ kept. sym (ap arrivedAt (c .enum-told .given .1)) ∙ driven (c .before .before) kept)
+returns-2 c =
+    let drove : tie.After-drive-with-hold = search in
+    missed (λ kept. sym (ap arrivedAt (c .enum-told .given .1)) ∙ driven drove kept)
 
 pub offer-arc-spec : {M : Type 1} → statement M
 offer-arc-spec =

@@ -20,25 +20,23 @@ Inv-loop first tick interval fences heads lengths holds speeds next settled labe
 abbrev μ-loop : tie.MeasureT-loop
 μ-loop first tick interval fences heads lengths holds speeds next settled labels₀ predecessors₀ intervals₀ tree₀ a₀ labels predecessors intervals tree a = noArc - a
 
-abbrev start : tie.After-slice-known2 Inv-loop μ-loop → tie.Start Inv-loop μ-loop
-start c = c .before .before .before .before .before .before .before
-
-abbrev handed : tie.In-loop Inv-loop μ-loop → tie.Start Inv-loop μ-loop
-handed c = start (c .before .before)
+abbrev begun : tie.In-loop Inv-loop μ-loop → tie.Start Inv-loop μ-loop
+begun c = search
 
 -- the arc at hand, and what its offer is handed
-arc-at : (c : tie.In-loop Inv-loop μ-loop) → c .before .loop .a < length (now (handed c .args .heads))
+arc-at : (c : tie.In-loop Inv-loop μ-loop) → c .before .loop .a < length (now (begun c .args .heads))
 arc-at c = c .before .loop .inv .arc-is (c .loop-test .taken)
 
 few : (c : tie.In-loop Inv-loop μ-loop) → c .before .loop .a < 640
-few c = omega (arith, arc-at c, handed c .pre .few-arcs)
+few c = omega (arith, arc-at c, begun c .pre .few-arcs)
 
 abbrev offerable : (c : tie.In-loop Inv-loop μ-loop) →
-    Offerable (getD (now (handed c .args .heads)) (c .before .loop .a) 0 % 256) (tables (c .before .loop .labels) (c .before .loop .predecessors) (c .before .loop .intervals) (c .before .loop .tree))
-offerable c = onward-offerable (handed c .pre) (c .before .loop .inv) (c .loop-test .taken)
+    let turn = c .before .loop in
+    Offerable (getD (now (begun c .args .heads)) (turn .a) 0 % 256) (tables (turn .labels) (turn .predecessors) (turn .intervals) (turn .tree))
+offerable c = onward-offerable (begun c .pre) (c .before .loop .inv) (c .loop-test .taken)
 
 loop-holds : tie.Need-loop-holds Inv-loop μ-loop
-loop-holds c = onward-starts (start c .pre) _ _ _
+loop-holds c = let handed : tie.Start Inv-loop μ-loop = search in onward-starts (handed .pre) _ _ _
 
 cast-arc : tie.Need-cast-arc Inv-loop μ-loop
 cast-arc c = omega (arith, few c)
@@ -57,27 +55,27 @@ element-copy-out-if1 c = offerable (c .before) .is-junction
 
 offer-arc-requires : tie.Need-offer-arc-requires Inv-loop μ-loop
 offer-arc-requires c κs =
-    let i = c .before .before .before .before .before .before .before in
-    (onward-arc (handed i .pre) (i .before .loop .inv) (i .loop-test .taken), offerable i)
+    let turn : tie.In-loop Inv-loop μ-loop = search in
+    (onward-arc (begun turn .pre) (turn .before .loop .inv) (turn .loop-test .taken), offerable turn)
 
 mul-a : tie.Need-mul-a Inv-loop μ-loop
-mul-a c = omega (arith, few (c .before .before .before))
+mul-a c = let turn : tie.In-loop Inv-loop μ-loop = search in omega (arith, few turn)
 
 element-copy-out-a : tie.Need-element-copy-out-a Inv-loop μ-loop
-element-copy-out-a c = few (c .before .before .before)
+element-copy-out-a c = let turn : tie.In-loop Inv-loop μ-loop = search in few turn
 
 loop-less : tie.Need-loop-less Inv-loop μ-loop
 loop-less c =
-    let i = c .before .before .before .before in
-    next-higher (handed i .pre) (i .before .loop .inv) (i .loop-test .taken)
+    let turn : tie.In-loop Inv-loop μ-loop = search in
+    next-higher (begun turn .pre) (turn .before .loop .inv) (turn .loop-test .taken)
 
 loop-again : tie.Need-loop-again Inv-loop μ-loop
 loop-again c =
-    let i = c .before .before .before .before in
-    let some = i .loop-test .taken in
+    let turn : tie.In-loop Inv-loop μ-loop = search in
+    let some = turn .loop-test .taken in
     ⊎-elim
-    (λ w. rw (w .10, w .11, w .12, w .13) (onward-offers (handed i .pre) (i .before .loop .inv) some (not-true _ (w .0 .taken)) (w .5 .ensures)))
-    (λ w. rw (w .1, w .2, w .3, w .4) (onward-skips (handed i .pre) (i .before .loop .inv) some (not-false _ (w .0 .left))))
+    (λ w. rw (w .10, w .11, w .12, w .13) (onward-offers (begun turn .pre) (turn .before .loop .inv) some (not-true _ (w .0 .taken)) (w .5 .ensures)))
+    (λ w. rw (w .1, w .2, w .3, w .4) (onward-skips (begun turn .pre) (turn .before .loop .inv) some (not-false _ (w .0 .left))))
     (c .before .if1 .came)
 
 same-length : tie.Need-same-length Inv-loop μ-loop

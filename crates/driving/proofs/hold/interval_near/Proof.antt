@@ -10,11 +10,11 @@ use Rattle.driving.proofs.hold.interval_near.Tie as tie
 
 returns : tie.Need-returns
 returns c =
-    let s = c .before .before .before in
-    (contained (now (s .args .fences)) _ (omega (arith, s .pre)) (sym (c .before .contains .ensures) ∙ c .if1 .taken), s .pre)
+    let begun : tie.Start = search in
+    (contained (now (begun .args .fences)) _ (omega (arith, begun .pre)) (sym (c .before .contains .ensures) ∙ c .if1 .taken), begun .pre)
 
 returns-2 : tie.Need-returns-2
-returns-2 c = let inside = c .before .before .before .before .pre in ((λ kept. c .interval-of .ensures), interval-inside _ _ inside (c .interval-of .ensures))
+returns-2 c = let begun : tie.Start = search in ((λ kept. c .interval-of .ensures), interval-inside _ _ (begun .pre) (c .interval-of .ensures))
 
 pub interval-near-spec : {M : Type 1} → statement M
 interval-near-spec =

@@ -12,7 +12,9 @@ returns : tie.Need-returns
 returns c = ((λ kept in-time is. rw (c .if1 .taken, add-zero) (told _ refl in-time is)), c .before .before .pre)
 
 returns-2 : tie.Need-returns-2
-returns-2 c = let handed = c .before .before .before .args in ((λ kept in-time is. told-none _ (handed .tick + handed .hold) (omega (arith, c .if2 .taken))), tt)
+returns-2 c =
+    let begun : tie.Start = search in
+    ((λ kept in-time is. told-none _ (begun .args .tick + begun .args .hold) (omega (arith, c .if2 .taken))), tt)
 
 returns-3 : tie.Need-returns-3
 returns-3 c = ((λ kept in-time is. told _ refl (omega (arith, c .before .if2 .left)) (c .interval-near .ensures .0 kept)), c .interval-near .ensures .1)

@@ -9,27 +9,29 @@ use borrow.Author.Tests.{lt-ltb, le-ltb, le-leb, lt-leb}
 use Rattle.driving.proofs.interval.contains.Statement.{statement}
 use Rattle.driving.proofs.interval.contains.Tie as tie
 
-abbrev start : tie.After-time-of-day → tie.Start
-start c = c .before .before .before
-
-abbrev fence : tie.After-time-of-day → ℕ
-fence c = getD (now (start c .args .fences)) (start c .args .interval) 0
+abbrev fence : tie.Start → ℕ
+fence s = getD (now (s .args .fences)) (s .args .interval) 0
 
 returns : tie.Need-returns
 returns c = rw (le-ltb _ _ (c .if1 .taken))
 
 returns-2 : tie.Need-returns-2
 returns-2 c =
-    let e = c .before .before in
-    rw (lt-ltb _ _ (e .before .if1 .left), ← e .time-of-day .ensures, lt-leb (fence e) (e .time-of-day .result) (omega (arith, c .if2 .taken)))
+    let begun : tie.Start = search in
+    let day : tie.After-time-of-day = search in
+    rw (lt-ltb _ _ (day .before .if1 .left), ← day .time-of-day .ensures, lt-leb (fence begun) (day .time-of-day .result) (omega (arith, c .if2 .taken)))
+
+interval-end-requires : tie.Need-interval-end-requires
+interval-end-requires c κs = let is-interval : tie.Else1 = search in omega (arith, is-interval .if1 .left)
 
 returns-3 : tie.Need-returns-3
 returns-3 c =
-    let e = c .before .before .before in
+    let begun : tie.Start = search in
+    let day : tie.After-time-of-day = search in
     rw (
-      lt-ltb _ _ (e .before .if1 .left),
-      ← e .time-of-day .ensures,
-      le-leb (fence e) (e .time-of-day .result) (omega (arith, c .before .if2 .left)),
+      lt-ltb _ _ (day .before .if1 .left),
+      ← day .time-of-day .ensures,
+      le-leb (fence begun) (day .time-of-day .result) (omega (arith, c .before .if2 .left)),
       c .interval-end .ensures,
       add-one,
     )
@@ -43,5 +45,5 @@ contains-spec =
     (λ c. search needs)
     (λ c. search needs)
     returns-2
-    (λ c κs. omega (arith, c .before .before .before .if1 .left))
+    interval-end-requires
     returns-3)

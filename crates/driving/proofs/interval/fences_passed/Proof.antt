@@ -19,10 +19,10 @@ loop-holds : tie.Need-loop-holds Inv-loop μ-loop
 loop-holds c = zero-add _
 
 returns : tie.Need-returns Inv-loop μ-loop
-returns c = passed-stops _ _ _ _ (c .before .before .before .loop .inv) (c .before .before .loop-test .taken) (c .if1 .taken)
+returns c = let turn : tie.In-loop Inv-loop μ-loop = search in passed-stops _ _ _ _ (turn .before .loop .inv) (turn .loop-test .taken) (c .if1 .taken)
 
 loop-again : tie.Need-loop-again Inv-loop μ-loop
-loop-again c = passed-goes-on _ _ _ _ (c .before .before .before .loop .inv) (c .before .before .loop-test .taken) (c .if1 .left)
+loop-again c = let turn : tie.In-loop Inv-loop μ-loop = search in passed-goes-on _ _ _ _ (turn .before .loop .inv) (turn .loop-test .taken) (c .if1 .left)
 
 returns-2 : tie.Need-returns-2 Inv-loop μ-loop
 returns-2 c = passed-ends _ _ _ _ (c .before .loop .inv) (c .loop-test .left)

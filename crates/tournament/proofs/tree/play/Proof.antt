@@ -8,6 +8,9 @@ use Rattle.tournament.proofs.tree.play.Tie as tie
 returns : tie.Need-returns
 returns c = (rw (← c .before .before .opponent .ensures) (c .lesser .ensures), refl)
 
+element-write-tree : tie.Need-element-write-tree
+element-write-tree c = let begun : tie.Start = search in omega (arith, begun .pre)
+
 pub play-spec : {M : Type 1} → statement M
 play-spec =
     tie.close
@@ -17,5 +20,5 @@ play-spec =
     (λ c. omega (arith, c .before .pre, c .opponent .ensures))
     (λ c κs. search needs)
     (λ c. omega arith)
-    (λ c. omega (arith, c .before .before .before .pre))
+    element-write-tree
     returns)

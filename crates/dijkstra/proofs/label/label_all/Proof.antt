@@ -10,6 +10,7 @@ use Rattle.model.specs.Ticks.{never}
 use Rattle.model.specs.Intervals.{timeOfDay, intervalOf}
 use Rattle.model.specs.Labels.{noArc, labelsOf, predecessorsOf}
 use Rattle.model.specs.Network.{Network, network, netOf}
+use Rattle.model.specs.Lent.{networkIn}
 use Rattle.checking.specs.Question.{Taken}
 use Rattle.model.proofs.Passed.{passed-at-most}
 use Rattle.tournament.proofs.Matches.{equal-keys}
@@ -131,7 +132,7 @@ same-length-2 : tie.Need-same-length-2 Inv-loop μ-loop
 same-length-2 c = let l : tie.At-loop Inv-loop μ-loop = search in l .loop .inv .standing .predecessors-long ∙ sym (begun l .pre .predecessors-long)
 
 abbrev N : tie.Start Inv-loop μ-loop → Network
-N s = network (s .args .junctions) (now (s .args .fences)) (now (s .args .tails)) (now (s .args .heads)) (now (s .args .lengths)) (now (s .args .holds)) (now (s .args .speeds))
+N s = let args = s .args in networkIn (args .junctions) (args .fences) (args .tails) (args .heads) (args .lengths) (args .holds) (args .speeds)
 
 -- no junction is left
 abbrev last-round : tie.Then1 Inv-loop μ-loop → tie.At-loop Inv-loop μ-loop

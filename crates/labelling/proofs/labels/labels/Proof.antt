@@ -7,7 +7,8 @@ use mathlib.Core.Bool.{true, false, not, _&&_}
 use lib.Dec.{eqb}
 use denote.Ref.{now}
 use borrow.Author.Tests.{eq-eqb, ne-eqb}
-use Rattle.model.specs.Network.{Network, network}
+use Rattle.model.specs.Network.{Network}
+use Rattle.model.specs.Lent.{networkIn}
 use Rattle.model.specs.Rules.{AllKept}
 use Rattle.model.proofs.Rules.{replies-kept}
 use Rattle.checking.specs.NetworkCheck.{outcomeOf}
@@ -18,13 +19,13 @@ use Rattle.labelling.proofs.labels.labels.Statement.{statement}
 use Rattle.labelling.proofs.labels.labels.Tie as tie
 
 abbrev N : tie.Start → Network
-N s = network (s .args .junctions) (now (s .args .fences)) (now (s .args .tails)) (now (s .args .heads)) (now (s .args .lengths)) (now (s .args .holds)) (now (s .args .speeds))
+N s = let args = s .args in networkIn (args .junctions) (args .fences) (args .tails) (args .heads) (args .lengths) (args .holds) (args .speeds)
 
-abbrev start : tie.After-enum-told → tie.Start
-start c = c .before .before .before .before .before .before .before .before .before .before .before
+abbrev begun : tie.After-enum-told → tie.Start
+begun c = search
 
 -- the question is taken
-taken : (c : tie.After-enum-told) → AllKept (questionRules (N (start c)) (start c .args .source) (start c .args .departure .number))
+taken : (c : tie.After-enum-told) → AllKept (questionRules (N (begun c)) (begun c .args .source) (begun c .args .departure .number))
 unfolding questionCheck
 taken c = replies-kept _ tt tt (sym (c .before .before .question-check .ensures) ∙ ap outcomeOf (c .enum-told .given .1))
 
@@ -38,11 +39,13 @@ short-predecessors l p n e h = rw (eq-eqb l n e, ne-eqb p n h)
 both-long : (l p n : ℕ) → l ≡ n → p ≡ n → not (eqb l n && eqb p n) ≡ false
 both-long l p n e f = rw (eq-eqb l n e, eq-eqb p n f)
 
-kept : (c : tie.Else2) → AllKept (bufferRules (N (start (c .before .before))) (now (start (c .before .before) .args .labels)) (now (start (c .before .before) .args .predecessors)))
+kept : (c : tie.Else2) → let s = begun (c .before .before) in AllKept (bufferRules (N s) (now (s .args .labels)) (now (s .args .predecessors)))
 kept c = (both-long _ _ _ (c .before .if1 .left) (c .if2 .left), tt)
 
 returns : tie.Need-returns
-returns c = question-refuses _ _ _ _ _ _ (sym (ap outcomeOf (c .before .refusal .given .1)) ∙ c .before .before .before .question-check .ensures)
+returns c =
+    let asked : tie.After-question-check = search in
+    question-refuses _ _ _ _ _ _ (sym (ap outcomeOf (c .before .refusal .given .1)) ∙ asked .question-check .ensures)
 
 returns-2 : tie.Need-returns-2
 returns-2 c = buffers-refuse _ _ _ _ _ (taken (c .before)) (short-labels _ _ _ (c .if1 .taken))
@@ -52,9 +55,10 @@ returns-3 c = buffers-refuse _ _ _ _ _ (taken (c .before .before)) (short-predec
 
 returns-4 : tie.Need-returns-4
 returns-4 c =
-    let labelled = c .before .before .before .before in
-    let fits = labelled .before .before .before in
-    let question = taken (fits .before .before) in
+    let told : tie.After-enum-told = search in
+    let fits : tie.Else2 = search in
+    let labelled : tie.After-label-from = search in
+    let question = taken told in
     let labelable = kept-labelable _ _ _ _ _ question (kept fits) in
     let (labels-are, predecessors-are) = labelled .label-from .ensures in
     ends-written _ _ _ _ _ (replies _ _ _ _ _ question (kept fits)) (labels-are .when-labelable labelable) (predecessors-are .when-labelable labelable)

@@ -20,10 +20,9 @@ loop-holds c = counting-starts (c .before .before .pre)
 
 add-count : tie.Need-add-count Inv-loop μ-loop
 add-count c =
-    let turn = c .before .before in
-    let start = turn .before .before .before in
-    let most = way-at-most (now (start .args .tails)) (start .args .source) (now (start .args .predecessors)) (start .args .destination) in
-    omega (arith, counting-more (turn .loop .inv) (c .before .loop-test .taken), most, start .good)
+    let begun : tie.Start Inv-loop μ-loop = search in
+    let most = way-at-most (now (begun .args .tails)) (begun .args .source) (now (begun .args .predecessors)) (begun .args .destination) in
+    omega (arith, counting-more (c .before .before .loop .inv) (c .before .loop-test .taken), most, begun .good)
 
 loop-less : tie.Need-loop-less Inv-loop μ-loop
 loop-less c = omega (arith, counting-more (c .before .before .loop .inv) (c .before .loop-test .taken))

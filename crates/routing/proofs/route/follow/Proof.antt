@@ -9,35 +9,38 @@ use Rattle.routing.proofs.Following.{way-at-most}
 use Rattle.routing.proofs.route.follow.Statement.{statement}
 use Rattle.routing.proofs.route.follow.Tie as tie
 
-abbrev start : tie.Else2 → tie.Start
-start c = c .before .before .before .before .before .before .before
+abbrev begun : tie.Else2 → tie.Start
+begun c = search
 
 abbrev way : tie.Start → List ℕ
 way s = backFrom (now (s .args .tails)) (s .args .source) (now (s .args .predecessors)) (s .args .destination)
 
-reached : (c : tie.Else2) → Reached (now (start c .args .labels)) (start c .args .destination)
+reached : (c : tie.Else2) → Reached (now (begun c .args .labels)) (begun c .args .destination)
 reached c = record { is-junction = c .before .before .if1 .left; has-label = c .if2 .left }
 
-lead : (c : tie.Else2) → Leads (now (start c .args .tails)) (start c .args .source) (now (start c .args .predecessors)) (start c .args .destination) (way (start c))
-lead c = start c .pre .1 (reached c)
+lead : (c : tie.Else2) →
+    let s = begun c in Leads (now (s .args .tails)) (s .args .source) (now (s .args .predecessors)) (s .args .destination) (way s)
+lead c = begun c .pre .1 (reached c)
 
 returns-3 : tie.Need-returns-3
 returns-3 c = too-short (reached (c .before .before)) (rw (c .before .count-arcs .ensures) at (c .if3 .taken))
 
 write-arcs-requires : tie.Need-write-arcs-requires
-write-arcs-requires c κs = (lead (c .before .before .before), (c .before .before .count-arcs .ensures, c .before .if3 .left))
+write-arcs-requires c κs = let arrives : tie.Else2 = search in (lead arrives, (c .before .before .count-arcs .ensures, c .before .if3 .left))
 
 cast-count : tie.Need-cast-t15
 cast-count c =
-    let counted = c .before .before .before .before .before in
-    let s = start (counted .before) in
-    omega (arith, counted .count-arcs .ensures, s .pre .0, way-at-most (now (s .args .tails)) (s .args .source) (now (s .args .predecessors)) (s .args .destination))
+    let s : tie.Start = search in
+    let counted : tie.After-count-arcs = search in
+    let most = way-at-most (now (s .args .tails)) (s .args .source) (now (s .args .predecessors)) (s .args .destination) in
+    omega (arith, counted .count-arcs .ensures, s .pre .0, most)
 
 returns-4 : tie.Need-returns-4
 returns-4 c =
-    let fits = c .before .before .before .before in
+    let arrives : tie.Else2 = search in
+    let fits : tie.Else3 = search in
     let counted = fits .before .count-arcs .ensures in
-    found (reached (fits .before .before)) (rw counted at (fits .if3 .left)) counted (c .before .before .write-arcs .ensures)
+    found (reached arrives) (rw counted at (fits .if3 .left)) counted (c .before .before .write-arcs .ensures)
 
 pub follow-spec : {M : Type 1} → statement M
 follow-spec =

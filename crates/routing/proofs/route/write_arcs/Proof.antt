@@ -19,11 +19,12 @@ abbrev μ-loop : tie.MeasureT-loop
 
 loop-holds : tie.Need-loop-holds Inv-loop μ-loop
 loop-holds c =
-    let asked = c .before .before .before .pre in
-    writing-starts (asked .0) (asked .1 .0) (asked .1 .1)
+    let begun : tie.Start Inv-loop μ-loop = search in
+    let (leads, (count-is, room)) = begun .pre in
+    writing-starts leads count-is room
 
 mul-arcs : tie.Need-mul-arcs Inv-loop μ-loop
-mul-arcs c = omega (arith, c .before .before .loop .inv .k-fits, c .before .before .before .before .before .before .good)
+mul-arcs c = let begun : tie.Start Inv-loop μ-loop = search in omega (arith, c .before .before .loop .inv .k-fits, begun .good)
 
 slice-write-arcs : tie.Need-slice-write-arcs Inv-loop μ-loop
 slice-write-arcs c = omega (arith, c .before .before .loop .inv .k-fits, c .before .before .loop .inv .arcs-long, c .before .loop-test .taken)
@@ -33,9 +34,9 @@ loop-again c = writing-goes-on (c .before .before .loop .inv) _ (omega (arith, c
 
 returns : tie.Need-returns Inv-loop μ-loop
 returns c =
-    let start = c .before .before .before .before .before in
-    let way = backFrom (now (start .args .tails)) (start .args .source) (now (start .args .predecessors)) (start .args .destination) in
-    writing-ends (c .before .loop .inv) (omega arith) (start .pre .1 .0 ∙ sym (length-reverse way))
+    let begun : tie.Start Inv-loop μ-loop = search in
+    let way = backFrom (now (begun .args .tails)) (begun .args .source) (now (begun .args .predecessors)) (begun .args .destination) in
+    writing-ends (c .before .loop .inv) (omega arith) (begun .pre .1 .0 ∙ sym (length-reverse way))
 
 pub write-arcs-spec : {M : Type 1} → statement M
 write-arcs-spec =

@@ -14,41 +14,52 @@ Inv-loop labels departures junctions junction figures₀ k₀ figures k = Tallie
 abbrev μ-loop : tie.MeasureT-loop
 μ-loop labels departures junctions junction figures₀ k₀ figures k = k
 
--- a turn, and the function's start from it
-abbrev start : tie.In-loop Inv-loop μ-loop → tie.Start Inv-loop μ-loop
-start c = c .before .before .before .before
+abbrev begun : tie.In-loop Inv-loop μ-loop → tie.Start Inv-loop μ-loop
+begun c = search
 
 kept : (c : tie.In-loop Inv-loop μ-loop) →
-    let args = start c .args in ColumnKept (now (args .labels)) (now (args .departures)) (args .junctions) (args .junction)
-kept c = start c .pre
+    let args = begun c .args in ColumnKept (now (args .labels)) (now (args .departures)) (args .junctions) (args .junction)
+kept c = begun c .pre
 
 tally : (c : tie.In-loop Inv-loop μ-loop) →
-    let args = start c .args in
+    let args = begun c .args in
     Tallied (now (args .labels)) (now (args .departures)) (args .junctions) (args .junction) (suc (c .before .loop .k - 1)) (c .before .loop .figures)
 tally c = tally-before (c .before .loop .inv) (c .loop-test .taken)
 
 mul-label : tie.Need-mul-label Inv-loop μ-loop
-mul-label c = omega (arith, inside (kept c) _ (tally c), start c .good)
+mul-label c = omega (arith, inside (kept c) _ (tally c), begun c .good)
 
 add-label : tie.Need-add-label Inv-loop μ-loop
-add-label c = omega (arith, inside (kept c) _ (tally c), start c .good)
+add-label c = omega (arith, inside (kept c) _ (tally c), begun c .good)
 
 mul-label-2 : tie.Need-mul-label-2 Inv-loop μ-loop
-mul-label-2 c = omega (arith, inside (kept c) _ (tally c), start c .good)
+mul-label-2 c = omega (arith, inside (kept c) _ (tally c), begun c .good)
 
 mul-with-journey : tie.Need-mul-with-journey Inv-loop μ-loop
-mul-with-journey c = let turn = c .before .before in omega (arith, p-inside (kept turn) _ (tally turn), start turn .good)
+mul-with-journey c = let turn = c .before .before in omega (arith, p-inside (kept turn) _ (tally turn), begun turn .good)
+
+shared-slice-read-with-journey : tie.Need-shared-slice-read-with-journey Inv-loop μ-loop
+shared-slice-read-with-journey c = let turn : tie.In-loop Inv-loop μ-loop = search in p-inside (kept turn) _ (tally turn)
+
+sub-with-journey : tie.Need-sub-with-journey Inv-loop μ-loop
+sub-with-journey c = let turn : tie.In-loop Inv-loop μ-loop = search in departed (kept turn) _ (tally turn) (c .before .if1 .taken)
 
 with-journey-requires : tie.Need-with-journey-requires Inv-loop μ-loop
 with-journey-requires c κs =
-    let turn = c .before .before .before in
+    let turn : tie.In-loop Inv-loop μ-loop = search in
     let reached = c .before .if1 .taken in
     (count-fits (kept turn) _ (tally turn) reached, sum-fits (kept turn) _ (tally turn) reached)
 
+loop-less : tie.Need-loop-less Inv-loop μ-loop
+loop-less c = let turn : tie.In-loop Inv-loop μ-loop = search in omega (arith, turn .loop-test .taken)
+
 loop-again : tie.Need-loop-again Inv-loop μ-loop
 loop-again c =
-    let turn = c .before .before .before .before in
+    let turn : tie.In-loop Inv-loop μ-loop = search in
     rw (c .with-journey .ensures) (tally-reached (kept turn) _ (tally turn) (c .before .before .if1 .taken))
+
+loop-again-2 : tie.Need-loop-again-2 Inv-loop μ-loop
+loop-again-2 c = let turn = c .before .before in tally-unreached (kept turn) _ (tally turn) (c .if1 .left)
 
 returns : tie.Need-returns Inv-loop μ-loop
 returns c =
@@ -68,11 +79,11 @@ column-figures-spec =
     mul-label-2
     (λ c. inside (kept (c .before)) _ (tally (c .before)))
     mul-with-journey
-    (λ c. let turn = c .before .before .before in p-inside (kept turn) _ (tally turn))
-    (λ c. let turn = c .before .before .before in departed (kept turn) _ (tally turn) (c .before .if1 .taken))
+    shared-slice-read-with-journey
+    sub-with-journey
     with-journey-requires
-    (λ c. omega (arith, c .before .before .before .before .loop-test .taken))
+    loop-less
     loop-again
     (λ c. omega (arith, c .before .before .loop-test .taken))
-    (λ c. let turn = c .before .before in tally-unreached (kept turn) _ (tally turn) (c .if1 .left))
+    loop-again-2
     returns)

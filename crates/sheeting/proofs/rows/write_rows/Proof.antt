@@ -1,6 +1,6 @@
--- `test_rows::write_rows`: at each turn the buffer starts with the rows of the departures before (`RowsWritten`), and the predecessors have
+-- `rows::write_rows`: at each turn the buffer starts with the rows of the departures before (`RowsWritten`), and the predecessors have
 -- room for every network's junctions.
-use Prim.Native.Nat.{_-_}
+use Prim.Native.Nat.{_+_, _-_, _*_, _≤_, _<_}
 use mathlib.Core.Path.{_≡_, refl, sym, _∙_}
 use native.Mathlib.Omega.{arith}
 use borrow.Author.Needs.{needs}
@@ -8,6 +8,7 @@ use lib.ListN.{length}
 use lib.Seq.{length-take-le, length-front}
 use denote.Ref.{now}
 use Rattle.model.specs.Network.{Network, network}
+use Rattle.model.specs.Lent.{networkIn}
 use Rattle.sheeting.specs.code.Writing.{RowsAsked}
 use Rattle.sheeting.proofs.RowByRow.{RowsWritten, rows-start, row-inside, part-long, rows-go-on, rows-end}
 use Rattle.sheeting.proofs.rows.write_rows.Statement.{statement}
@@ -20,31 +21,62 @@ Inv-loop junctions fences tails heads lengths holds speeds source departures lab
 abbrev μ-loop : tie.MeasureT-loop
 μ-loop junctions fences tails heads lengths holds speeds source departures labels₀ predecessors₀ k₀ labels predecessors k = length departures - k
 
-abbrev start : tie.In-loop Inv-loop μ-loop → tie.Start Inv-loop μ-loop
-start c = c .before .before .before .before .before .before .before .before .before .before
+abbrev begun : tie.In-loop Inv-loop μ-loop → tie.Start Inv-loop μ-loop
+begun c = search
 
-abbrev N : tie.In-loop Inv-loop μ-loop → Network
-N c = let args = start c .args in network (args .junctions) (now (args .fences)) (now (args .tails)) (now (args .heads)) (now (args .lengths)) (now (args .holds)) (now (args .speeds))
+abbrev N : tie.Start Inv-loop μ-loop → Network
+N s = let args = s .args in networkIn (args .junctions) (args .fences) (args .tails) (args .heads) (args .lengths) (args .holds) (args .speeds)
 
-asked : (c : tie.In-loop Inv-loop μ-loop) → RowsAsked (N c) (start c .args .source) (now (start c .args .departures)) (now (start c .args .labels))
-asked c = start c .pre
+asked : (c : tie.In-loop Inv-loop μ-loop) → let s = begun c in RowsAsked (N s) (s .args .source) (now (s .args .departures)) (now (s .args .labels))
+asked c = begun c .pre
+
+-- the turn's row lies in the buffer
+in-buffer : (c : tie.In-loop Inv-loop μ-loop) →
+    let l = c .before .loop in
+    let junctions = begun c .args .junctions in l .k * junctions + junctions ≤ length (l .labels)
+in-buffer c = row-inside (asked c .labels-long) (c .before .loop .inv .0) (c .loop-test .taken)
+
+-- so that its ends are numbers of the machine, and places of bytes
+row-fits : (c : tie.In-loop Inv-loop μ-loop) →
+    let junctions = begun c .args .junctions in 4 * (c .before .loop .k * junctions + junctions) < 18446744073709551616
+row-fits c = omega (arith, in-buffer c, c .before .loop .inv .0 .same-length, begun c .good)
+
+-- the predecessors have room for each of the network's junctions
+has-room : (c : tie.In-loop Inv-loop μ-loop) → begun c .args .junctions ≤ length (c .before .loop .predecessors)
+has-room c = omega (arith, asked c .taken .accepted .junctions-fit, c .before .loop .inv .1)
+
+mul-from : tie.Need-mul-from Inv-loop μ-loop
+mul-from c = omega (arith, row-fits c)
+
+add-to : tie.Need-add-to Inv-loop μ-loop
+add-to c = omega (arith, row-fits c)
+
+mul-label-from-2 : tie.Need-mul-label-from-2 Inv-loop μ-loop
+mul-label-from-2 c = omega (arith, row-fits (c .before))
+
+slice-aggregate-label-from : tie.Need-slice-aggregate-label-from Inv-loop μ-loop
+slice-aggregate-label-from c = let turn : tie.In-loop Inv-loop μ-loop = search in sym (length-take-le _ _ (has-room turn))
 
 loop-again : tie.Need-loop-again Inv-loop μ-loop
 loop-again c =
-    let called = c .before .before .before in
-    let turn = called .before .before .before .before in
+    let turn : tie.In-loop Inv-loop μ-loop = search in
+    let called : tie.After-label-from Inv-loop μ-loop = search in
     let w = turn .before .loop .inv .0 in
     let more = turn .loop-test .taken in
     let t = asked turn .taken in
     let first = called .label-from .ensures .0 .when-labelable (record {
       taken = record { accepted = t .accepted; source-below = t .source-below; departure-below = t .departures-below _ more };
       labels-long = sym (part-long (asked turn .labels-long) w more);
-      predecessors-long = length-take-le _ _ (omega (arith, t .accepted .junctions-fit, turn .before .loop .inv .1));
+      predecessors-long = length-take-le _ _ (has-room turn);
     }) in
-    let kept = called .label-from .kept .1 .1 .1 .1 .1 .1 .1 .1 .1 .1 .0 in (
+    let left = called .label-from .last .1 .1 .1 .1 .1 .1 .1 .1 .1 .1 .0 in
+    let as-long = called .label-from .kept .1 .1 .1 .1 .1 .1 .1 .1 .1 .1 .0 in (
       rows-go-on (asked turn .labels-long) w more first,
-      length-front (turn .before .loop .predecessors) (called .label-from .last .1 .1 .1 .1 .1 .1 .1 .1 .1 .1 .0) (start turn .args .junctions) kept ∙ turn .before .loop .inv .1,
+      length-front (turn .before .loop .predecessors) left (begun turn .args .junctions) as-long ∙ turn .before .loop .inv .1,
     )
+
+returns : tie.Need-returns Inv-loop μ-loop
+returns c = let s : tie.Start Inv-loop μ-loop = search in rows-end (s .pre .labels-long) (c .before .loop .inv .0) (c .loop-test .left)
 
 pub write-rows-spec : {M : Type 1} → statement M
 write-rows-spec =
@@ -53,19 +85,19 @@ write-rows-spec =
     Inv-loop
     μ-loop
     (λ c. (rows-start _ _ _ _, refl))
-    (λ c. omega (arith, row-inside (asked c .labels-long) (c .before .loop .inv .0) (c .loop-test .taken), c .before .loop .inv .0 .same-length, start c .good))
-    (λ c. omega (arith, row-inside (asked c .labels-long) (c .before .loop .inv .0) (c .loop-test .taken), c .before .loop .inv .0 .same-length, start c .good))
+    mul-from
+    add-to
     (λ c. search needs)
     (λ c. search needs)
-    (λ c. let turn = c .before in omega (arith, row-inside (asked turn .labels-long) (turn .before .loop .inv .0) (turn .loop-test .taken), turn .before .loop .inv .0 .same-length, start turn .good))
+    mul-label-from-2
     (λ c. omega arith)
     (λ c. omega arith)
-    (λ c. let turn = c .before in row-inside (asked turn .labels-long) (turn .before .loop .inv .0) (turn .loop-test .taken))
-    (λ c. let turn = c .before .before in omega (arith, asked turn .taken .accepted .junctions-fit, turn .before .loop .inv .1))
-    (λ c. let turn = c .before .before .before in sym (length-take-le _ _ (omega (arith, asked turn .taken .accepted .junctions-fit, turn .before .loop .inv .1))))
+    (λ c. in-buffer (c .before))
+    (λ c. has-room (c .before .before))
+    slice-aggregate-label-from
     (λ c κs. search needs)
     (λ c. search needs)
     (λ c. search needs)
     loop-again
     (λ c. c .before .loop .inv .0 .same-length)
-    (λ c. rows-end (c .before .before .before .before .before .before .before .before .before .before .pre .labels-long) (c .before .loop .inv .0) (c .loop-test .left)))
+    returns)

@@ -5,7 +5,8 @@ use native.Mathlib.Nat.{mul-le-mul}
 use native.Mathlib.Omega.{arith}
 use denote.Ref.{now}
 use borrow.Author.Tests.{ne-eqb, eq-eqb}
-use Rattle.model.specs.Network.{Network, network}
+use Rattle.model.specs.Network.{Network}
+use Rattle.model.specs.Lent.{networkIn}
 use Rattle.model.specs.Rules.{replied}
 use Rattle.checking.specs.NetworkCheck.{outcomeOf}
 use Rattle.sheeting.specs.Sheet.{shiftCheck, ShiftTaken, Sheetable}
@@ -15,27 +16,27 @@ use Rattle.sheeting.proofs.SheetRules.{check-taken, check-refuses, buff
 use Rattle.sheeting.proofs.sheet.sheet.Statement.{statement}
 use Rattle.sheeting.proofs.sheet.sheet.Tie as tie
 
-abbrev start : tie.After-enum-told → tie.Start
-start c = c .before .before .before .before .before .before .before .before .before .before .before .before
+abbrev begun : tie.After-enum-told → tie.Start
+begun c = search
 
 abbrev N : tie.After-enum-told → Network
-N c =
-    let args = start c .args in
-    network (args .junctions) (now (args .fences)) (now (args .tails)) (now (args .heads)) (now (args .lengths)) (now (args .holds)) (now (args .speeds))
+N c = let args = begun c .args in networkIn (args .junctions) (args .fences) (args .tails) (args .heads) (args .lengths) (args .holds) (args .speeds)
 
 -- the source and the list are taken
-checked : (c : tie.After-enum-told) → shiftCheck (N c) (start c .args .source) (now (start c .args .departures)) ≡ replied tt
+checked : (c : tie.After-enum-told) → shiftCheck (N c) (begun c .args .source) (now (begun c .args .departures)) ≡ replied tt
 checked c = sym (c .before .before .shift-check .ensures) ∙ ap outcomeOf (c .enum-told .given .1)
 
-taken : (c : tie.After-enum-told) → ShiftTaken (N c) (start c .args .source) (now (start c .args .departures))
+taken : (c : tie.After-enum-told) → ShiftTaken (N c) (begun c .args .source) (now (begun c .args .departures))
 taken c = check-taken _ _ _ (checked c)
 
 sheetable : (c : tie.Else2) → let told = c .before .before in
-    let args = start told .args in Sheetable (N told) (args .source) (now (args .departures)) (now (args .labels)) (now (args .figures))
+    let args = begun told .args in Sheetable (N told) (args .source) (now (args .departures)) (now (args .labels)) (now (args .figures))
 sheetable c = record { taken = taken (c .before .before); labels-long = c .before .if1 .left; figures-long = c .if2 .left }
 
 returns : tie.Need-returns
-returns c = check-refuses _ _ _ _ _ (sym (ap outcomeOf (c .before .refusal .given .1)) ∙ c .before .before .before .shift-check .ensures)
+returns c =
+    let asked : tie.After-shift-check = search in
+    check-refuses _ _ _ _ _ (sym (ap outcomeOf (c .before .refusal .given .1)) ∙ asked .shift-check .ensures)
 
 mul-if1 : tie.Need-mul-if1
 mul-if1 c = omega (arith, mul-le-mul (taken c .at-most) (taken c .accepted .junctions-fit))
@@ -51,19 +52,20 @@ write-rows-requires c κs = let fits = sheetable (c .before) in record { taken =
 
 write-figures-requires : tie.Need-write-figures-requires
 write-figures-requires c κs =
-    let wrote = c .before .before .before .before in
-    let fits = sheetable (wrote .before .before) in
+    let long : tie.Else2 = search in
+    let wrote : tie.After-write-rows = search in
+    let fits = sheetable long in
     (λ j h. rw (wrote .write-rows .ensures) (columns-kept _ _ _ (fits .taken) j h), fits .figures-long)
 
 returns-4 : tie.Need-returns-4
 returns-4 c =
-    let figured = c .before .before in
-    let wrote = figured .before .before .before .before .before in
-    let fits = sheetable (wrote .before .before) in
-    let told = wrote .before .before .before .before in
+    let told : tie.After-enum-told = search in
+    let long : tie.Else2 = search in
+    let wrote : tie.After-write-rows = search in
+    let figured : tie.After-write-figures = search in
     let rows = wrote .write-rows .ensures in
-    let of-rows = ap (λ l. columnFigures l (now (start told .args .departures)) (N told .junctions) 0 (N told .junctions)) rows in
-    ends-written _ _ _ _ _ fits rows (figured .write-figures .ensures ∙ of-rows ∙ figures-are _ _ _)
+    let of-rows = ap (λ l. columnFigures l (now (begun told .args .departures)) (N told .junctions) 0 (N told .junctions)) rows in
+    ends-written _ _ _ _ _ (sheetable long) rows (figured .write-figures .ensures ∙ of-rows ∙ figures-are _ _ _)
 
 pub sheet-spec : {M : Type 1} → statement M
 sheet-spec =

@@ -7,7 +7,8 @@ use mathlib.Core.List.{List, _++_}
 use lib.ListN.{length}
 use denote.Ref.{now}
 use borrow.Author.Tests.{lt-ltb, le-ltb}
-use Rattle.model.specs.Network.{Network, network}
+use Rattle.model.specs.Network.{Network}
+use Rattle.model.specs.Lent.{networkIn}
 use Rattle.model.specs.NetworkRules.{networkRules}
 use Rattle.model.specs.Rules.{firstBroken}
 use Rattle.checking.specs.NetworkCheck.{outcomeOf}
@@ -19,13 +20,11 @@ use Rattle.sheeting.proofs.SheetRules.{none-listed, too-many-listed, co
 use Rattle.sheeting.proofs.sheet.shift_check.Statement.{statement}
 use Rattle.sheeting.proofs.sheet.shift_check.Tie as tie
 
-abbrev start : tie.After-enum-told → tie.Start
-start c = c .before .before .before .before .before .before .before .before .before .before
+abbrev begun : tie.After-enum-told → tie.Start
+begun c = search
 
 abbrev N : tie.After-enum-told → Network
-N c =
-    let s = start c in
-    network (s .args .junctions) (now (s .args .fences)) (now (s .args .tails)) (now (s .args .heads)) (now (s .args .lengths)) (now (s .args .holds)) (now (s .args .speeds))
+N c = let args = begun c .args in networkIn (args .junctions) (args .fences) (args .tails) (args .heads) (args .lengths) (args .holds) (args .speeds)
 
 by-rules : (n : Network) (source : ℕ) (departures : List ℕ) → shiftCheck n source departures ≡ firstBroken (networkRules n ++ shiftRules n source departures) tt
 unfolding shiftCheck
@@ -34,19 +33,21 @@ by-rules n source departures = refl
 -- the network's rules are kept, and then those of this check, one by one
 abbrev network-kept : (c : tie.After-enum-told) → KeptSoFar (length (networkRules (N c)))
 network-kept c =
-    let source = start c .args .source in
-    let departures = now (start c .args .departures) in
+    let source = begun c .args .source in
+    let departures = now (begun c .args .departures) in
     others-kept tt (networkRules (N c)) (shiftRules (N c) source departures) (by-rules (N c) source departures)
     (network-keeps (N c) (c .before .before .network-check .ensures) (c .enum-told .given .1))
 
 abbrev source-kept : (c : tie.Else1) → KeptSoFar (suc (length (networkRules (N (c .before)))))
 source-kept c = next-kept (network-kept (c .before)) (ap not (lt-ltb _ _ (c .if1 .left)))
 
-abbrev list-kept : (c : tie.Else3) → KeptSoFar (suc (suc (length (networkRules (N (c .before .before .before))))))
+abbrev list-kept : (c : tie.Else3) → let told : tie.After-enum-told = search in KeptSoFar (suc (suc (length (networkRules (N told)))))
 list-kept c = next-kept (source-kept (c .before .before)) (count-kept (c .before .if2 .left) (c .if3 .left))
 
 returns : tie.Need-returns
-returns c = network-refuses _ _ _ (sym (ap outcomeOf (c .before .refusal .given .1)) ∙ c .before .before .before .network-check .ensures)
+returns c =
+    let asked : tie.After-network-check = search in
+    network-refuses _ _ _ (sym (ap outcomeOf (c .before .refusal .given .1)) ∙ asked .network-check .ensures)
 
 pub shift-check-spec : {M : Type 1} → statement M
 shift-check-spec =

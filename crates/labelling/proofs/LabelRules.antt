@@ -75,7 +75,8 @@ module _ (N : Network) (source departure : ℕ) (labels predecessors : List ℕ)
       let kept = kept-append (questionRules N source departure) buffers (replies-kept (questionRules N source departure ++ buffers) tt tt e) in
       kept-labelable (kept .0) (kept .1)
 
-  pub ends-written : {labels′ predecessors′ : List ℕ} → answer ≡ replied tt → labels′ ≡ labelsOf (netOf N) source departure → predecessors′ ≡ predecessorsOf (netOf N) source departure →
+  pub ends-written : {labels′ predecessors′ : List ℕ} → answer ≡ replied tt →
+      labels′ ≡ labelsOf (netOf N) source departure → predecessors′ ≡ predecessorsOf (netOf N) source departure →
       Ends (replied tt) labels′ predecessors′
   ends-written e l p = (sym e, (rw e l, rw e p))
 

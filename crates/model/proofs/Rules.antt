@@ -145,7 +145,11 @@ module _ (limit : ℕ) (xs : List ℕ) where
 
 -- ---- The fences
 
-rise-at : (before : ℕ) (fences : List ℕ) → riseFrom before fences ≡ true → (k : ℕ) → k < length fences → (getD (before ∷ fences) k 0 < getD fences k 0) × (getD fences k 0 < day)
+-- Each fence is above the one before it, and below the day.
+abbrev Rises : ℕ → List ℕ → Type 0
+Rises before fences = (k : ℕ) → k < length fences → (getD (before ∷ fences) k 0 < getD fences k 0) × (getD fences k 0 < day)
+
+rise-at : (before : ℕ) (fences : List ℕ) → riseFrom before fences ≡ true → Rises before fences
 unfolding riseFrom
 rise-at before [] e k h = absurd (omega arith)
 rise-at before (f ∷ fs) e zero h =
@@ -153,7 +157,7 @@ rise-at before (f ∷ fs) e zero h =
     (ltb-true before f (parts .0), ltb-true f day (parts .1))
 rise-at before (f ∷ fs) e (suc k) h = rise-at f fs (true-three (ltb before f) (ltb f day) (riseFrom f fs) e .2) k (omega arith)
 
-at-rise : (before : ℕ) (fences : List ℕ) → ((k : ℕ) → k < length fences → (getD (before ∷ fences) k 0 < getD fences k 0) × (getD fences k 0 < day)) → riseFrom before fences ≡ true
+at-rise : (before : ℕ) (fences : List ℕ) → Rises before fences → riseFrom before fences ≡ true
 unfolding riseFrom
 at-rise before [] rises = refl
 at-rise before (f ∷ fs) rises =

@@ -21,7 +21,8 @@ abbrev pub tablesAgree : List ℕ → List ℕ → List ℕ → List ℕ → Lis
 tablesAgree fences tails heads lengths holds speeds =
     eqb (length heads) (length tails) && eqb (length lengths) (length tails) && eqb (length holds) (length tails) && eqb (length speeds) (length tails * length fences)
 
--- Each arc goes from a junction to another.
+-- Each arc goes from a junction to another. An arc without a head passes here: number 4, asked before, has compared the tables' lengths, and
+-- `Accepted` asks for both.
 unfoldable pub endsKeep : ℕ → List ℕ → List ℕ → Bool
 endsKeep junctions [] heads = true
 endsKeep junctions (tail ∷ tails) [] = true

@@ -58,7 +58,8 @@ pub record Counting (tails : List ℕ) (source : ℕ) (predecessors : List ℕ) 
   pub leads : Leads tails source predecessors j left
   pub adds-up : count + length left ≡ total
 
-pub counting-starts : {tails : List ℕ} {source : ℕ} {predecessors : List ℕ} {j : ℕ} {arcs : List ℕ} → Leads tails source predecessors j arcs → Counting tails source predecessors (length arcs) j 0
+pub counting-starts : {tails : List ℕ} {source : ℕ} {predecessors : List ℕ} {j : ℕ} {arcs : List ℕ} → Leads tails source predecessors j arcs →
+    Counting tails source predecessors (length arcs) j 0
 counting-starts {arcs} l = record { left = arcs; leads = l; adds-up = omega arith }
 
 module _ {tails : List ℕ} {source : ℕ} {predecessors : List ℕ} {total j count : ℕ} (c : Counting tails source predecessors total j count) where

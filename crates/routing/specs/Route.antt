@@ -42,7 +42,8 @@ foundRules N source departure destination arcs =
 
 unfoldable pub routeAnswer : Network → ℕ → ℕ → ℕ → List ℕ → Outcome ℕ
 routeAnswer N source departure destination arcs =
-    firstBroken (questionRules N source departure ++ (destinationRules N destination ++ foundRules N source departure destination arcs)) (length (routeOf (netOf N) source departure destination))
+    firstBroken (questionRules N source departure ++ (destinationRules N destination ++ foundRules N source departure destination arcs))
+    (length (routeOf (netOf N) source departure destination))
 
 -- Where the call replies, the destination's label.
 abbrev pub withReply : Outcome ℕ → ℕ → Option ℕ

@@ -88,7 +88,8 @@ fn follow(
 ) -> Routed
     requires { ⌜ length (now predecessors) ≤ maxJunctions ⌝ }
     requires { ⌜ (Reached (now labels) destination → Leads (now tails) source (now predecessors) destination (backFrom (now tails) source (now predecessors) destination)) ⌝ }
-    ensures { λ r. ⌜ Follows (now (labels .entry)) destination (backFrom (now (tails .entry)) source (now (predecessors .entry)) destination) (now (arcs .entry)) r (now (arcs .exit)) ⌝ }
+    ensures { λ r. ⌜ Follows (now (labels .entry)) destination (backFrom (now (tails .entry)) source (now (predecessors .entry)) destination)
+        (now (arcs .entry)) r (now (arcs .exit)) ⌝ }
 {
     let from = source as usize;
     let to = destination as usize;
@@ -124,9 +125,12 @@ pub fn route(
     destination: u32,
     arcs: &mut [u16],
 ) -> Routed
-    ensures answer { λ r. ⌜ outcomeOf r ≡ routeAnswer (lentNetwork junctions fences tails heads lengths holds speeds) source (departure .number) destination (now (arcs .entry)) ⌝ }
-    ensures arrival { λ r. ⌜ arrivalOf r ≡ routeArrival (lentNetwork junctions fences tails heads lengths holds speeds) source (departure .number) destination (now (arcs .entry)) ⌝ }
-    ensures arcs { λ _. ⌜ now (arcs .exit) ≡ arcsAfter (lentNetwork junctions fences tails heads lengths holds speeds) source (departure .number) destination (now (arcs .entry)) ⌝ }
+    ensures answer { λ r. ⌜ outcomeOf r ≡ routeAnswer (lentNetwork junctions fences tails heads lengths holds speeds) source (departure .number)
+        destination (now (arcs .entry)) ⌝ }
+    ensures arrival { λ r. ⌜ arrivalOf r ≡ routeArrival (lentNetwork junctions fences tails heads lengths holds speeds) source (departure .number)
+        destination (now (arcs .entry)) ⌝ }
+    ensures arcs { λ _. ⌜ now (arcs .exit) ≡ arcsAfter (lentNetwork junctions fences tails heads lengths holds speeds) source (departure .number)
+        destination (now (arcs .entry)) ⌝ }
 {
     let mut earliest = [UNREACHED; MAX_JUNCTIONS];
     let mut predecessors = [NO_ARC; MAX_JUNCTIONS];

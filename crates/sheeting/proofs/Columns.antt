@@ -39,7 +39,8 @@ pub record Tallied (labels departures : List ℕ) (junctions j k : ℕ) (f : Fig
   pub few : f .count + k ≤ length departures
   pub small : f .sum + k * last ≤ length departures * last
 
-pub tally-starts : (labels departures : List ℕ) (junctions j : ℕ) → Tallied labels departures junctions j (length departures) (record { count = 0; least = 0; greatest = 0; sum = 0 })
+pub tally-starts : (labels departures : List ℕ) (junctions j : ℕ) →
+    Tallied labels departures junctions j (length departures) (record { count = 0; least = 0; greatest = 0; sum = 0 })
 unfolding columnTicks least greatest sum
 tally-starts labels departures junctions j = record {
   k-fits = omega arith;
@@ -125,7 +126,9 @@ columns-long : (labels departures : List ℕ) (junctions j k : ℕ) → length (
 unfolding columnFigures
 columns-long labels departures junctions j zero = refl
 columns-long labels departures junctions j (suc k) =
-    omega (arith, length-append (fourOf (columnTicks labels junctions j departures)) (columnFigures labels departures junctions (suc j) k), columns-long labels departures junctions (suc j) k)
+    let first = fourOf (columnTicks labels junctions j departures) in
+    let others = columnFigures labels departures junctions (suc j) k in
+    omega (arith, length-append first others, columns-long labels departures junctions (suc j) k)
 
 -- The table starts with the figures of the first j columns.
 pub record FiguresWritten (labels departures : List ℕ) (junctions : ℕ) (before : List ℕ) (j : ℕ) (figures : List ℕ) : Type 0 where

@@ -82,8 +82,9 @@ module _ (N : Network) (source : ℕ) where
     column-from before (departure ∷ departures) =
         let labels = labelsOf (netOf N) source departure in
         let rest = rowsOf N source departures in
+        let has-label : j < length labels = omega (arith, labels-long departure) in
         let entry : getD (before ++ (labels ++ rest)) (length before + j) 0 ≡ label N source departure j =
-        getD-append-add before (labels ++ rest) j 0 ∙ List·getD-append labels rest 0 j (omega (arith, labels-long departure)) ∙ getD-inside labels j 0 never (omega (arith, labels-long departure)) in
+        getD-append-add before (labels ++ rest) j 0 ∙ List·getD-append labels rest 0 j has-label ∙ getD-inside labels j 0 never has-label in
         let next : length before + j + N .junctions ≡ length (before ++ labels) + j = omega (arith, length-append before labels, labels-long departure) in
         let others : columnTicks (before ++ (labels ++ rest)) (N .junctions) (length before + j + N .junctions) departures ≡ journeys N source j departures =
         rw (next, ← append-assoc before labels rest) (column-from (before ++ labels) departures) in
@@ -92,7 +93,8 @@ module _ (N : Network) (source : ℕ) where
     pub column-is : (departures : List ℕ) → columnTicks (rowsOf N source departures) (N .junctions) j departures ≡ journeys N source j departures
     column-is departures = let first : 0 + j ≡ j = omega arith in rw first at (column-from [] departures)
 
-  pub columns-are : (departures : List ℕ) (j k : ℕ) → j + k ≤ N .junctions → columnFigures (rowsOf N source departures) departures (N .junctions) j k ≡ figuresFrom N source departures j k
+  pub columns-are : (departures : List ℕ) (j k : ℕ) → j + k ≤ N .junctions →
+      columnFigures (rowsOf N source departures) departures (N .junctions) j k ≡ figuresFrom N source departures j k
   unfolding columnFigures figuresFrom
   columns-are departures j zero fits = refl
   columns-are departures j (suc k) fits = rw (column-is j (omega arith) departures, columns-are departures (suc j) k (omega arith))
@@ -168,7 +170,8 @@ module _ {N : Network} {source : ℕ} {departures before : List ℕ} (long : len
         ap (rowsOf N source) (take-suc departures k 0 more) ∙ rows-snoc N source (take k departures) (getD departures k 0) ∙ ap (λ l. rows ++ l) (sym is) in
         record {
           k-fits = omega arith;
-          holds = rw (start, post-is from (from + N .junctions) labels (omega arith), rest, next, end, one-more) (sym (append-assoc rows labels′ (drop (suc k * N .junctions) before)));
+          holds = rw (start, post-is from (from + N .junctions) labels (omega arith), rest, next, end, one-more)
+              (sym (append-assoc rows labels′ (drop (suc k * N .junctions) before)));
           same-length = same-len-mid from (from + N .junctions - from) labels labels′ as-lent ∙ w .same-length;
         }
 

@@ -92,7 +92,8 @@ sample-read : Progress
 sample-read = record { turn = 3; junctions = 3; intervals = 2; unnamed = 1; arcs = 3 }
 
 scanned : (firstFault sampleText ≡ accepted sample-read) × (firstFault sampleWithoutComment ≡ accepted sample-read)
-unfolding sample-read joined firstBroken every riseFrom fencesKeep upTo onFirst pieces decimalFrom numberKeeps markOf nameKeeps formKeeps valuesKeep lineRead lineAnswer linesFrom firstFault
+unfolding sample-read joined firstBroken every riseFrom fencesKeep upTo onFirst pieces decimalFrom numberKeeps markOf nameKeeps formKeeps valuesKeep
+    lineRead lineAnswer linesFrom firstFault
 scanned = (refl, refl)
 
 same-town : townOf sampleText ≡ townOf sampleWithoutComment

@@ -44,6 +44,31 @@ kept₇ c = next-kept (kept₆ (c .before)) (le-ltb _ _ (c .if7 .left))
 abbrev kept₈ : tie.Else8 → KeptSoFar 8
 kept₈ c = next-kept (kept₇ (c .before .before)) (as-test (c .before .contains .ensures) (c .if8 .left))
 
+-- Where a test fails, its rule is the first broken.
+refused₁ : tie.Need-returns
+refused₁ c = next-refused (kept₀ (c .before)) (as-test (c .before .interval-count-keeps .ensures) (c .if1 .taken))
+
+refused₂ : tie.Need-returns-2
+refused₂ c = next-refused (kept₁ (c .before)) (ap not (ne-eqb _ _ (c .if2 .taken)))
+
+refused₃ : tie.Need-returns-3
+refused₃ c = next-refused (kept₂ (c .before .before)) (as-test (c .before .fences-keep .ensures) (c .if3 .taken))
+
+refused₄ : tie.Need-returns-4
+refused₄ c = next-refused (kept₃ (c .before .before)) (as-test (c .before .length-keeps .ensures) (c .if4 .taken))
+
+refused₅ : tie.Need-returns-5
+refused₅ c = next-refused (kept₄ (c .before .before)) (as-test (c .before .speeds-keep .ensures) (c .if5 .taken))
+
+refused₆ : tie.Need-returns-6
+refused₆ c = next-refused (kept₅ (c .before)) (ap not (lt-leb _ _ (c .if6 .taken)))
+
+refused₇ : tie.Need-returns-7
+refused₇ c = next-refused (kept₆ (c .before)) (lt-ltb _ _ (c .if7 .taken))
+
+refused₈ : tie.Need-returns-8
+refused₈ c = next-refused (kept₇ (c .before .before)) (as-test (c .before .contains .ensures) (c .if8 .taken))
+
 -- What the engine gives is the reply.
 driven : (d : tie.After-drive-with-hold) {told : Arrival} → d .drive-with-hold .result ≡ told → replied (arrivedAt told) ≡ kept₈ (d .before) .answer
 driven d same = engine-replies _ _ _ _ _ _ (kept₈ (d .before) .kept) (d .drive-with-hold .ensures .0) same
@@ -55,29 +80,32 @@ cast-interval c =
     let drove : tie.After-drive-with-hold = search in
     interval-fits (now (begun .args .fences)) (kept₈ (drove .before) .kept .0) (drove .drive-with-hold .ensures .1) (c .before .arrival .given .1)
 
-returns-9 : tie.Need-returns-9
-returns-9 c = let drove : tie.After-drive-with-hold = search in driven drove (c .before .arrival .given .1)
+arrives : tie.Need-returns-9
+arrives c = let drove : tie.After-drive-with-hold = search in driven drove (c .before .arrival .given .1)
+
+misses : tie.Need-returns-10
+misses c = driven (c .before .before) (c .enum-told .given .1)
 
 pub arc-arrival-spec : {M : Type 1} → statement M
 arc-arrival-spec =
     tie.close
     (tie.spec
     (λ c κs. search needs)
-    (λ c. next-refused (kept₀ (c .before)) (as-test (c .before .interval-count-keeps .ensures) (c .if1 .taken)))
-    (λ c. next-refused (kept₁ (c .before)) (ap not (ne-eqb _ _ (c .if2 .taken))))
+    refused₁
+    refused₂
     (λ c κs. search needs)
-    (λ c. next-refused (kept₂ (c .before .before)) (as-test (c .before .fences-keep .ensures) (c .if3 .taken)))
+    refused₃
     (λ c κs. search needs)
-    (λ c. next-refused (kept₃ (c .before .before)) (as-test (c .before .length-keeps .ensures) (c .if4 .taken)))
+    refused₄
     (λ c κs. search needs)
-    (λ c. next-refused (kept₄ (c .before .before)) (as-test (c .before .speeds-keep .ensures) (c .if5 .taken)))
-    (λ c. next-refused (kept₅ (c .before)) (ap not (lt-leb _ _ (c .if6 .taken))))
-    (λ c. next-refused (kept₆ (c .before)) (lt-ltb _ _ (c .if7 .taken)))
+    refused₅
+    refused₆
+    refused₇
     (λ c κs. search needs)
-    (λ c. next-refused (kept₇ (c .before .before)) (as-test (c .before .contains .ensures) (c .if8 .taken)))
+    refused₈
     (λ c κs. search needs)
     (λ c. search needs)
     cast-interval
     (λ c. search needs)
-    returns-9
-    (λ c. driven (c .before .before) (c .enum-told .given .1)))
+    arrives
+    misses)

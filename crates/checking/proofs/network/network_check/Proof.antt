@@ -65,25 +65,53 @@ ends-keep-requires c κs =
     let n = N counted in
     kept-tables (n .fences) (n .tails) (n .heads) (n .lengths) (n .holds) (n .speeds) (kept₄ (c .before .before) .kept .1 .1 .1 .0) .0
 
+-- where a test fails, its rule is the first broken
+refused₁ : tie.Need-returns
+refused₁ c = next-refused (kept₀ (c .before)) (as-test (c .before .junction-count-keeps .ensures) (c .if1 .taken))
+
+refused₂ : tie.Need-returns-2
+refused₂ c = next-refused (kept₁ (c .before .before)) (as-test (c .before .interval-count-keeps .ensures) (c .if2 .taken))
+
+refused₃ : tie.Need-returns-3
+refused₃ c = next-refused (kept₂ (c .before)) (lt-ltb _ _ (c .if3 .taken))
+
+refused₄ : tie.Need-returns-4
+refused₄ c = next-refused (kept₃ (c .before .before)) (as-test (c .before .tables-agree .ensures) (c .if4 .taken))
+
+refused₅ : tie.Need-returns-5
+refused₅ c = next-refused (kept₄ (c .before .before)) (as-test (c .before .fences-keep .ensures) (c .if5 .taken))
+
+refused₆ : tie.Need-returns-6
+refused₆ c = next-refused (kept₅ (c .before .before)) (as-test (c .before .ends-keep .ensures) (c .if6 .taken))
+
+refused₇ : tie.Need-returns-7
+refused₇ c = next-refused (kept₆ (c .before .before)) (as-test (c .before .lengths-keep .ensures) (c .if7 .taken))
+
+refused₈ : tie.Need-returns-8
+refused₈ c = next-refused (kept₇ (c .before .before)) (as-test (c .before .speeds-keep .ensures) (c .if8 .taken))
+
+refused₉ : tie.Need-returns-9
+refused₉ c = next-refused (kept₈ (c .before .before)) (as-test (c .before .holds-keep .ensures) (c .if9 .taken))
+
 pub network-check-spec : {M : Type 1} → statement M
 network-check-spec =
     tie.close
     (tie.spec
     (λ c κs. search needs)
-    (λ c. next-refused (kept₀ (c .before)) (as-test (c .before .junction-count-keeps .ensures) (c .if1 .taken)))
+    refused₁
     (λ c κs. search needs)
-    (λ c. next-refused (kept₁ (c .before .before)) (as-test (c .before .interval-count-keeps .ensures) (c .if2 .taken)))
-    (λ c. next-refused (kept₂ (c .before)) (lt-ltb _ _ (c .if3 .taken)))
+    refused₂
+    refused₃
     tables-agree-requires
-    (λ c. next-refused (kept₃ (c .before .before)) (as-test (c .before .tables-agree .ensures) (c .if4 .taken)))
+    refused₄
     (λ c κs. search needs)
-    (λ c. next-refused (kept₄ (c .before .before)) (as-test (c .before .fences-keep .ensures) (c .if5 .taken)))
+    refused₅
     ends-keep-requires
-    (λ c. next-refused (kept₅ (c .before .before)) (as-test (c .before .ends-keep .ensures) (c .if6 .taken)))
+    refused₆
     (λ c κs. search needs)
-    (λ c. next-refused (kept₆ (c .before .before)) (as-test (c .before .lengths-keep .ensures) (c .if7 .taken)))
+    refused₇
     (λ c κs. search needs)
-    (λ c. next-refused (kept₇ (c .before .before)) (as-test (c .before .speeds-keep .ensures) (c .if8 .taken)))
+    refused₈
     (λ c κs. search needs)
-    (λ c. next-refused (kept₈ (c .before .before)) (as-test (c .before .holds-keep .ensures) (c .if9 .taken)))
+    refused₉
     (λ c. all-kept (kept₉ c) refl))

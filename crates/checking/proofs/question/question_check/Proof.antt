@@ -45,6 +45,13 @@ returns c =
     let asked : tie.After-network-check = search in
     network-refuses _ _ _ _ (sym (ap outcomeOf (c .before .refusal .given .1)) ∙ asked .network-check .ensures)
 
+-- where a test fails, its rule is the first broken
+source-refused : tie.Need-returns-2
+source-refused c = next-refused (network-kept (c .before)) (ap not (le-ltb _ _ (c .if1 .taken)))
+
+departure-refused : tie.Need-returns-3
+departure-refused c = next-refused (source-kept (c .before)) (ap not (le-ltb _ _ (c .if2 .taken)))
+
 pub question-check-spec : {M : Type 1} → statement M
 question-check-spec =
     tie.close
@@ -53,6 +60,6 @@ question-check-spec =
     (λ c. search needs)
     returns
     (λ c. search needs)
-    (λ c. next-refused (network-kept (c .before)) (ap not (le-ltb _ _ (c .if1 .taken))))
-    (λ c. next-refused (source-kept (c .before)) (ap not (le-ltb _ _ (c .if2 .taken))))
+    source-refused
+    departure-refused
     (λ c. all-kept (departure-kept c) refl))

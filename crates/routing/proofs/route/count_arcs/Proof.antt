@@ -27,6 +27,9 @@ add-count c =
 loop-less : tie.Need-loop-less Inv-loop μ-loop
 loop-less c = omega (arith, counting-more (c .before .before .loop .inv) (c .before .loop-test .taken))
 
+loop-again : tie.Need-loop-again Inv-loop μ-loop
+loop-again c = counting-goes-on (c .before .before .loop .inv) (c .before .loop-test .taken) (c .step-back .ensures)
+
 pub count-arcs-spec : {M : Type 1} → statement M
 count-arcs-spec =
     tie.close
@@ -37,5 +40,5 @@ count-arcs-spec =
     (λ c κs. counting-step (c .before .loop .inv) (c .loop-test .taken) .has-step)
     add-count
     loop-less
-    (λ c. counting-goes-on (c .before .before .loop .inv) (c .before .loop-test .taken) (c .step-back .ensures))
+    loop-again
     (λ c. counting-ends (c .before .loop .inv) (c .loop-test .left)))

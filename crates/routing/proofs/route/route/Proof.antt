@@ -20,12 +20,18 @@ begun c = search
 abbrev N : tie.Start → Network
 N s = let args = s .args in networkIn (args .junctions) (args .fences) (args .tails) (args .heads) (args .lengths) (args .holds) (args .speeds)
 
--- the tables as Labels leaves them
+-- the tables as Labels leaves them, which are as long as they were
 abbrev labels : tie.After-labels-within → List ℕ
 labels c = c .labels-within .last .1 .1 .1 .1 .1 .1 .1 .1 .1 .0
 
 abbrev predecessors : tie.After-labels-within → List ℕ
 predecessors c = c .labels-within .last .1 .1 .1 .1 .1 .1 .1 .1 .1 .1 .0
+
+labels-long : (c : tie.After-labels-within) → length (labels c) ≡ 200
+labels-long c = c .labels-within .kept .1 .1 .1 .1 .1 .1 .1 .1 .1 .0
+
+predecessors-long : (c : tie.After-labels-within) → length (predecessors c) ≡ 200
+predecessors-long c = c .labels-within .kept .1 .1 .1 .1 .1 .1 .1 .1 .1 .1 .0
 
 called : (c : tie.After-labels-within) →
     let s = begun c in
@@ -44,15 +50,21 @@ labelled c = search
 written : (c : tie.After-enum-told) → outcomeOf (labelled c .labels-within .result) ≡ replied tt
 written c = ap outcomeOf (c .enum-told .given .1)
 
+few-junctions : (c : tie.After-enum-told) → begun (labelled c) .args .junctions ≤ 200
+few-junctions c = taken (called (labelled c)) (written c) .accepted .junctions-fit
+
 labels-fit : (c : tie.After-enum-told) → begun (labelled c) .args .junctions ≤ length (labels (labelled c))
-labels-fit c =
-    let few-junctions = taken (called (labelled c)) (written c) .accepted .junctions-fit in
-    omega (arith, few-junctions, labelled c .labels-within .kept .1 .1 .1 .1 .1 .1 .1 .1 .1 .0)
+labels-fit c = omega (arith, few-junctions c, labels-long (labelled c))
 
 predecessors-fit : (c : tie.After-enum-told) → begun (labelled c) .args .junctions ≤ length (predecessors (labelled c))
-predecessors-fit c =
-    let few-junctions = taken (called (labelled c)) (written c) .accepted .junctions-fit in
-    omega (arith, few-junctions, labelled c .labels-within .kept .1 .1 .1 .1 .1 .1 .1 .1 .1 .1 .0)
+predecessors-fit c = omega (arith, few-junctions c, predecessors-long (labelled c))
+
+-- the parts lent to `follow` have an entry for each junction
+labels-lent : tie.Need-slice-aggregate-follow
+labels-lent c = sym (length-take-le _ _ (labels-fit (c .before)))
+
+predecessors-lent : tie.Need-slice-aggregate-follow-2
+predecessors-lent c = sym (length-take-le _ _ (predecessors-fit (c .before .before)))
 
 follow-requires : tie.Need-follow-requires
 follow-requires c κs =
@@ -74,10 +86,10 @@ route-spec =
     (λ c. search needs)
     returns
     (λ c. search needs)
-    (λ c. labels-fit c)
-    (λ c. sym (length-take-le _ _ (labels-fit (c .before))))
+    labels-fit
+    labels-lent
     (λ c. predecessors-fit (c .before))
-    (λ c. sym (length-take-le _ _ (predecessors-fit (c .before .before))))
+    predecessors-lent
     follow-requires
     (λ c. search needs)
     returns-2)

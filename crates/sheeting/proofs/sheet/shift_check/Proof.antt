@@ -49,6 +49,22 @@ returns c =
     let asked : tie.After-network-check = search in
     network-refuses _ _ _ (sym (ap outcomeOf (c .before .refusal .given .1)) ∙ asked .network-check .ensures)
 
+-- where a test fails, its rule is the first broken
+source-refused : tie.Need-returns-2
+source-refused c = next-refused (network-kept (c .before)) (ap not (le-ltb _ _ (c .if1 .taken)))
+
+no-list-refused : tie.Need-returns-3
+no-list-refused c = next-refused (source-kept (c .before)) (none-listed (c .if2 .taken))
+
+long-list-refused : tie.Need-returns-4
+long-list-refused c = next-refused (source-kept (c .before .before)) (too-many-listed (c .if3 .taken))
+
+departure-refused : tie.Need-returns-5
+departure-refused c = next-refused (list-kept (c .before .before)) (ap not (test-fails (c .before .departures-keep .ensures) (c .if4 .taken)))
+
+all-taken : tie.Need-returns-6
+all-taken c = all-kept (next-kept (list-kept (c .before .before)) (ap not (test-passes (c .before .departures-keep .ensures) (c .if4 .left)))) refl
+
 pub shift-check-spec : {M : Type 1} → statement M
 shift-check-spec =
     tie.close
@@ -57,9 +73,9 @@ shift-check-spec =
     (λ c. search needs)
     returns
     (λ c. search needs)
-    (λ c. next-refused (network-kept (c .before)) (ap not (le-ltb _ _ (c .if1 .taken))))
-    (λ c. next-refused (source-kept (c .before)) (none-listed (c .if2 .taken)))
-    (λ c. next-refused (source-kept (c .before .before)) (too-many-listed (c .if3 .taken)))
+    source-refused
+    no-list-refused
+    long-list-refused
     (λ c κs. search needs)
-    (λ c. next-refused (list-kept (c .before .before)) (ap not (test-fails (c .before .departures-keep .ensures) (c .if4 .taken))))
-    (λ c. all-kept (next-kept (list-kept (c .before .before)) (ap not (test-passes (c .before .departures-keep .ensures) (c .if4 .left)))) refl))
+    departure-refused
+    all-taken)

@@ -36,10 +36,10 @@ begun c = search
 source-known : (s : tie.Start Inv-loop μ-loop) → s .args .source < 200
 source-known s = omega (arith, s .pre .source-below, s .pre .tables-fit .junctions-fit)
 
--- the nearest junction, where there is one
 abbrev round : tie.After-junction-of Inv-loop μ-loop → tie.At-loop Inv-loop μ-loop
 round c = search
 
+-- the nearest junction, where there is one
 nearest : (c : tie.After-junction-of Inv-loop μ-loop) →
     let l = round c .loop in
     let junction = c .junction-of .result in
@@ -134,10 +134,10 @@ same-length-2 c = let l : tie.At-loop Inv-loop μ-loop = search in l .loop .inv 
 abbrev N : tie.Start Inv-loop μ-loop → Network
 N s = let args = s .args in networkIn (args .junctions) (args .fences) (args .tails) (args .heads) (args .lengths) (args .holds) (args .speeds)
 
--- no junction is left
 abbrev last-round : tie.Then1 Inv-loop μ-loop → tie.At-loop Inv-loop μ-loop
 last-round c = search
 
+-- no junction is left
 ended : (c : tie.Then1 Inv-loop μ-loop) →
     let l = last-round c in
     let s = begun l in

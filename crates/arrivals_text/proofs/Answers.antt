@@ -1,6 +1,6 @@
--- The answer to an input, by its length and by what its first line asks; and its text.
+-- The answer to an input, by its length and by what its first line asks.
 use Prim.Native.Nat.{ℕ, _≤_, _<_}
-use mathlib.Core.Path.{_≡_, refl, ap, _∙_}
+use mathlib.Core.Path.{_≡_, refl, _∙_}
 use mathlib.Core.Bool.{Bool, true, false, cond}
 use mathlib.Core.List.{List}
 use native.Mathlib.Omega.{arith}
@@ -11,8 +11,8 @@ use Rattle.townfile.specs.FirstFault.{refusedAt}
 use Rattle.question_line.specs.Line.{numbersIn, ofForm, restStart}
 use Rattle.question_line.specs.Question.{markQU, sourceIn, townText}
 use Rattle.question_line.proofs.Answers.{asked-too-long, asked-not, asked-so, rest-inside}
-use Rattle.formatting.specs.Texts.{refusalText}
-use Rattle.arrivals_text.specs.Answer.{textOf, townAnswer, answerTo, arrivalsText}
+use Rattle.town_labels.specs.Labelling.{townLabelling}
+use Rattle.arrivals_text.specs.Answer.{answerTo}
 use Rattle.arrivals_text.specs.Question.{asks, departureIn}
 use Rattle.arrivals_text.specs.code.Found.{questionIn}
 use Rattle.arrivals_text.specs.declared.question.Question.the-variants.{Asked, Malformed}
@@ -28,41 +28,38 @@ module _ (input : List ℕ) where
   unfolding answerTo
   answer-not-asked h a = asked-not input _ h a
 
-  pub answer-asked : length input ≤ 65536 → asks input ≡ true → answerTo input ≡ townAnswer (townText input) (sourceIn input) (departureIn input)
+  pub answer-asked : length input ≤ 65536 → asks input ≡ true → answerTo input ≡ townLabelling (townText input) (sourceIn input) (departureIn input)
   unfolding answerTo
   answer-asked h a = asked-so input _ h a
 
--- ---- The text, by what the code finds
+-- ---- By what the code finds
 
-pub text-too-long : (input : List ℕ) → 65536 < length input → arrivalsText input ≡ refusalText 20 0
-unfolding arrivalsText
-text-too-long input h = ap textOf (answer-too-long input h)
-
-pub text-not-asked : (input : List ℕ) → length input ≤ 65536 → questionIn input ≡ Malformed → arrivalsText input ≡ refusalText 25 0
-unfolding arrivalsText questionIn
-text-not-asked input h e = go (asks input) refl e
+pub question-malformed : (input : List ℕ) → length input ≤ 65536 → questionIn input ≡ Malformed → answerTo input ≡ refusedAt 25 0
+unfolding questionIn
+question-malformed input h e = go (asks input) refl e
   where
-    go : (test : Bool) → asks input ≡ test → cond test (Asked (sourceIn input) (departureIn input) (restStart input)) Malformed ≡ Malformed → arrivalsText input ≡ refusalText 25 0
+    go : (test : Bool) → asks input ≡ test → cond test (Asked (sourceIn input) (departureIn input) (restStart input)) Malformed ≡ Malformed → answerTo input ≡ refusedAt 25 0
     go true a e = absurd (let z : _≡_ {A = ℕ} 0 1 = cc in omega arith)
-    go false a e = ap textOf (answer-not-asked input h a)
+    go false a e = answer-not-asked input h a
 
 -- The town file begins within the input.
 town-inside : (input : List ℕ) → asks input ≡ true → restStart input ≤ length input
 unfolding asks
 town-inside input a = rest-inside markQU input (true-both (ofForm markQU input) (eqb (length (numbersIn input)) 2) a .0)
 
-pub record TextAsked (input : List ℕ) (source departure town : ℕ) : Type 0 where
+pub record QuestionAsked (input : List ℕ) (source departure town : ℕ) : Type 0 where
   pub inside : town ≤ length input
-  pub answers : length input ≤ 65536 → arrivalsText input ≡ textOf (townAnswer (drop town input) source departure)
+  pub answers : length input ≤ 65536 → answerTo input ≡ townLabelling (drop town input) source departure
 
-pub text-asked : (input : List ℕ) {source departure town : ℕ} → questionIn input ≡ Asked source departure town → TextAsked input source departure town
-unfolding arrivalsText questionIn
-text-asked input {source} {departure} {town} e = go (asks input) refl e
+pub question-asked : (input : List ℕ) {source departure town : ℕ} → questionIn input ≡ Asked source departure town → QuestionAsked input source departure town
+unfolding questionIn
+question-asked input {source} {departure} {town} e = go (asks input) refl e
   where
-    go : (test : Bool) → asks input ≡ test → cond test (Asked (sourceIn input) (departureIn input) (restStart input)) Malformed ≡ Asked source departure town → TextAsked input source departure town
+    go : (test : Bool) → asks input ≡ test → cond test (Asked (sourceIn input) (departureIn input) (restStart input)) Malformed ≡ Asked source departure town →
+        QuestionAsked input source departure town
     go true a e =
         (let same-source : sourceIn input ≡ source = cc in
         let same-departure : departureIn input ≡ departure = cc in
         let same-town : restStart input ≡ town = cc in
-        record { inside = omega (arith, town-inside input a, same-town); answers = λ h. ap textOf (answer-asked input h a) ∙ rw (same-source, same-departure, same-town) })
+        record { inside = omega (arith, town-inside input a, same-town); answers = λ h. answer-asked input h a ∙ rw (same-source, same-departure, same-town) })
     go false a e = absurd (let z : _≡_ {A = ℕ} 0 1 = cc in omega arith)

@@ -17,43 +17,44 @@ use Rattle.townfile.specs.declared.progress.Progress.{Progress}
 use Rattle.townfile.proofs.Described.{faultless-described}
 use Rattle.question_line.proofs.Answers.{rest-bytes}
 use Rattle.question_line.proofs.Towns.{answer-faulty, answer-described}
-use Rattle.formatting.specs.Texts.{refusalText}
+use Rattle.formatting.specs.Texts.{refusalText, answerText}
 use Rattle.formatting.proofs.Texts.{same-refusal}
-use Rattle.arrivals_text.specs.Answer.{Arrivals, arrivalsIn, networkAnswer, townAnswer, answerTo, tableText, textOf, arrivalsText}
+use Rattle.town_labels.specs.Labelling.{Labelling, labellingOf, networkLabelling, townLabelling}
+use Rattle.arrivals_text.specs.Answer.{answerTo, tableText, tableOf, arrivalsText}
 use Rattle.arrivals_text.specs.Meaning.{TableMeans, RefusalMeans, input-too-long, no-question, faulty-text, unknown-source, late-departure, PrintsTable, PrintsRefusal, TableOrRefusal}
 use Rattle.arrivals_text.specs.Question.{QuestionAndText, asks}
 use Rattle.arrivals_text.proofs.Answers.{answer-too-long, answer-not-asked, answer-asked}
 use Rattle.arrivals_text.proofs.Questions.{asks-when-of-form}
 use Rattle.arrivals_text.proofs.ReadBack.{same-arrivals, table-no-refusal}
 
-abbrev Means : List ℕ → Reading Arrivals → Type 0
+abbrev Means : List ℕ → Reading Labelling → Type 0
 Means input (refusedAt number line) = RefusalMeans input number line
-Means input (accepted arrivals) = TableMeans input (arrivals .labels) (arrivals .predecessors)
+Means input (accepted labelling) = TableMeans input (labelling .labels) (labelling .predecessors)
 
 -- ---- The answer in each case
 
 module _ (input : List ℕ) (bytes : Bytes input) where
   module _ (short : length input ≤ 65536) {source departure : ℕ} {text : List ℕ} (question : QuestionAndText input source departure text) where
-    answer-question : answerTo input ≡ townAnswer text source departure
+    answer-question : answerTo input ≡ townLabelling text source departure
     answer-question =
         let asked = asks-when-of-form input bytes source departure text .1 question in
         answer-asked input short (asked .0) ∙ rw (asked .1, asked .2, asked .3)
 
     module _ {town : Town} (described : Describes text town) where
-      answer-town : answerTo input ≡ networkAnswer (networkOf town) source departure
+      answer-town : answerTo input ≡ networkLabelling (networkOf town) source departure
       answer-town = answer-question ∙ answer-described _ text described
 
       answer-unknown : town .junctions ≤ source → answerTo input ≡ refusedAt 9 0
-      unfolding networkAnswer firstBroken
+      unfolding networkLabelling firstBroken
       answer-unknown outside = answer-town ∙ rw (le-ltb source (town .junctions) outside)
 
       module _ (below : source < town .junctions) where
         answer-late : day ≤ departure → answerTo input ≡ refusedAt 10 0
-        unfolding networkAnswer firstBroken
+        unfolding networkLabelling firstBroken
         answer-late late = answer-town ∙ rw (lt-ltb source (town .junctions) below, le-ltb departure day late)
 
-        answer-table : departure < day → answerTo input ≡ accepted (arrivalsIn (networkOf town) source departure)
-        unfolding networkAnswer firstBroken
+        answer-table : departure < day → answerTo input ≡ accepted (labellingOf (networkOf town) source departure)
+        unfolding networkLabelling firstBroken
         answer-table early = answer-town ∙ rw (lt-ltb source (town .junctions) below, lt-ltb departure day early)
 
   -- ---- From a meaning to the answer
@@ -86,7 +87,7 @@ module _ (input : List ℕ) (bytes : Bytes input) where
     | inr outside ↦ rw (answer-unknown short question described (outside .1)) (unknown-source short question described (outside .1))
   ]
     where
-      table-means : source < town .junctions → departure < day → Means input (accepted (arrivalsIn (networkOf town) source departure))
+      table-means : source < town .junctions → departure < day → Means input (accepted (labellingOf (networkOf town) source departure))
       table-means below early =
           let kept = described .kept .network-accepted in
           let tables = only-tables-of-network (networkOf town) kept source departure below early _ _ .1 (refl, refl) in
@@ -143,24 +144,24 @@ prints-table input bytes labels predecessors = (
   (λ m. (rw (meant-table input bytes m), same-length m)),
 )
   where
-    go : (answer : Reading Arrivals) → Means input answer → textOf answer ≡ tableText labels predecessors → length predecessors ≡ length labels → TableMeans input labels predecessors
+    go : (answer : Reading Labelling) → Means input answer → answerText tableOf answer ≡ tableText labels predecessors → length predecessors ≡ length labels → TableMeans input labels predecessors
     go (refusedAt number line) m e long = absurd (table-no-refusal labels predecessors number line (sym e))
-    go (accepted arrivals) m e long =
-        let same = same-arrivals (arrivals .labels) (arrivals .predecessors) labels predecessors (same-length m) long e in
+    go (accepted labelling) m e long =
+        let same = same-arrivals (labelling .labels) (labelling .predecessors) labels predecessors (same-length m) long e in
         rw (same .0, same .1) at m
 
 pub prints-refusal : PrintsRefusal
 unfolding arrivalsText
 prints-refusal input bytes number line = (go (answerTo input) (means input bytes), (λ m. rw (meant-refusal input bytes m)))
   where
-    go : (answer : Reading Arrivals) → Means input answer → textOf answer ≡ refusalText number line → RefusalMeans input number line
+    go : (answer : Reading Labelling) → Means input answer → answerText tableOf answer ≡ refusalText number line → RefusalMeans input number line
     go (refusedAt number′ line′) m e = let same = same-refusal number′ line′ number line e in rw (same .0, same .1) at m
-    go (accepted arrivals) m e = absurd (table-no-refusal (arrivals .labels) (arrivals .predecessors) number line e)
+    go (accepted labelling) m e = absurd (table-no-refusal (labelling .labels) (labelling .predecessors) number line e)
 
 pub table-or-refusal : TableOrRefusal
 table-or-refusal input bytes = go (answerTo input) (means input bytes)
   where
-    go : (answer : Reading Arrivals) → Means input answer →
+    go : (answer : Reading Labelling) → Means input answer →
         ((labels : List ℕ) × (predecessors : List ℕ) × TableMeans input labels predecessors) ⊎ ((number : ℕ) × (line : ℕ) × RefusalMeans input number line)
     go (refusedAt number line) m = inr (number, line, m)
-    go (accepted arrivals) m = inl (arrivals .labels, arrivals .predecessors, m)
+    go (accepted labelling) m = inl (labelling .labels, labelling .predecessors, m)

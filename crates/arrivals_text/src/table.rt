@@ -1,21 +1,20 @@
-// The header and a line for each junction, or the line of a refusal.
+// The header and a line for each junction.
 ghost use mathlib.Core.Path.{_≡_};
+ghost use mathlib.Core.Bool.{false};
 ghost use Prim.Native.Nat.{_≤_};
 ghost use lib.ListN.{length};
-ghost use Rattle.refusals.specs.Refusals.{numberOf};
 ghost use Rattle.formatting.specs.Putting.{PutIfRoom};
-ghost use Rattle.formatting.specs.Texts.{refusalText};
 ghost use Rattle.formatting.specs.code.Printed.{Printed};
 ghost use Rattle.arrivals_text.specs.Answer.{junctionLine, junctionLines, tableText};
 ghost use Rattle.arrivals_text.specs.code.Tables.{TableFits};
 use formatting::put::put_byte;
 use formatting::put::put_number;
 use formatting::put::put_number_unless;
-use formatting::put::put_refusal;
 use formatting::put::put_text;
+use formatting::text::OUTPUT;
+use formatting::text::Text;
 use model::label::NO_ARC;
 use model::label::UNREACHED;
-use refusals::refusal::Refusal;
 use townfile::mark::LINE_FEED;
 use townfile::mark::SPACE;
 
@@ -64,15 +63,13 @@ fn put_header_and_lines(output: &mut [u8], labels: &[u32], predecessors: &[u16])
     put_lines(output, lines, labels, predecessors)
 }
 
-pub(crate) fn put_table(output: &mut [u8; 4096], labels: &[u32], predecessors: &[u16]) -> usize
+pub(crate) fn put_table(output: &mut [u8; OUTPUT], labels: &[u32], predecessors: &[u16]) -> Text
     requires { ⌜ TableFits (now labels) (now predecessors) ⌝ }
-    ensures { λ r. ⌜ Printed (tableText (now (labels .entry)) (now (predecessors .entry))) (now (output .entry)) (now (output .exit)) r ⌝ }
+    ensures { λ r. ⌜ Printed (tableText (now (labels .entry)) (now (predecessors .entry))) false (now (output .entry)) (now (output .exit)) r ⌝ }
 {
-    put_header_and_lines(output, labels, predecessors)
-}
-
-pub(crate) fn refuse(output: &mut [u8; 4096], refusal: Refusal, line: u32) -> usize
-    ensures { λ r. ⌜ Printed (refusalText (numberOf refusal) line) (now (output .entry)) (now (output .exit)) r ⌝ }
-{
-    put_refusal(output, 0, refusal, line)
+    let length = put_header_and_lines(output, labels, predecessors);
+    Text {
+        length,
+        refused: false,
+    }
 }

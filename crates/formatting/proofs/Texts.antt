@@ -17,11 +17,8 @@ use Rattle.refusals.specs.Refusals.{numberOf}
 use Rattle.refusals.specs.declared.refusal.Refusal.{Refusal}
 use Rattle.refusals.proofs.Refusals.{number-fits}
 use Rattle.formatting.specs.Digits.{digitsOf}
-use Rattle.formatting.specs.Putting.{PutIfRoom}
 use Rattle.formatting.specs.Texts.{numberUnless, refusalText}
-use Rattle.formatting.specs.code.Printed.{Printed}
 use Rattle.formatting.proofs.Digits.{tens, digits-short, digits-lack, same-digits}
-use Rattle.formatting.proofs.Putting.{put-printed}
 
 -- ---- A number or a dash
 
@@ -52,11 +49,8 @@ refusal-short : (number line : ℕ) → number < tens 10 → line < tens 10 → 
 refusal-short number line h h′ = omega (arith, length-refusal number line, digits-short number 9 h, digits-short line 9 h′)
 
 -- So every program's output has room for one.
-pub refusal-printed : (refusal : Refusal) (line : ℕ) {before after : List ℕ} {behind : ℕ} → line < tens 10 → 35 ≤ length before →
-    PutIfRoom (refusalText (numberOf refusal) line) 0 before after behind → Printed (refusalText (numberOf refusal) line) before after behind
-refusal-printed refusal line h room puts =
-    let short = refusal-short (numberOf refusal) line (omega (arith, number-fits refusal)) h in
-    put-printed puts (omega (arith, short))
+pub refusal-fits : (refusal : Refusal) (line : ℕ) → line < tens 10 → length (refusalText (numberOf refusal) line) ≤ 35
+refusal-fits refusal line h = refusal-short (numberOf refusal) line (omega (arith, number-fits refusal)) h
 
 -- ---- Two texts up to a separator
 

@@ -1,5 +1,4 @@
 pub mod Digits
 pub mod Putting
-pub mod Status
 pub mod Texts
 pub mod code

@@ -1,6 +1,6 @@
 -- What the programs print beside their numbers: a mark for no number, and "`refused 25 line 0`". "Each printed line ends in LF."
 use Prim.Native.Nat.{ℕ}
-use mathlib.Core.Bool.{cond}
+use mathlib.Core.Bool.{Bool, true, false, cond}
 use mathlib.Core.List.{List, [], _∷_, _++_}
 use lib.Dec.{eqb}
 use Rattle.townfile.specs.Bytes.{lineFeed}
@@ -25,3 +25,7 @@ refusalText number line = refusedWord ++ (digitsOf number ++ (lineWord ++ (digit
 abbrev pub answerText : {Reply : Type 0} → (Reply → List ℕ) → Reading Reply → List ℕ
 answerText print (refusedAt number line) = refusalText number line
 answerText print (accepted reply) = print reply
+
+abbrev pub isRefusal : {Reply : Type 0} → Reading Reply → Bool
+isRefusal (refusedAt number line) = true
+isRefusal (accepted reply) = false

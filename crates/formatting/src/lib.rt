@@ -1,3 +1,3 @@
-// Bytes, texts, numbers and refusals put into a lent buffer, and the exit status that goes with a text: what every program prints with.
-pub mod exit;
+// Bytes, texts, numbers and refusals put into a lent buffer: what every program prints with.
 pub mod put;
+pub mod text;

@@ -1,6 +1,6 @@
--- The text, by the input's length and by what the code finds in its first line.
+-- The answer, by the input's length and by what the code finds in its first line.
 use Prim.Native.Nat.{ℕ, _-_, _≤_, _<_, min}
-use mathlib.Core.Path.{_≡_, sym, ap, _∙_}
+use mathlib.Core.Path.{_≡_, sym, _∙_}
 use mathlib.Core.Bool.{true, false}
 use mathlib.Core.List.{List}
 use native.Mathlib.Omega.{arith}
@@ -10,8 +10,7 @@ use Rattle.question_line.specs.Line.{numbersIn, ofForm, numbersAfter}
 use Rattle.question_line.specs.Question.{markQU, sourceIn, townText}
 use Rattle.question_line.proofs.Answers.{asked-too-long, asked-not, asked-so, rest-inside}
 use Rattle.question_line.proofs.Asked.{NumbersAsked}
-use Rattle.formatting.specs.Texts.{refusalText}
-use Rattle.sheet_text.specs.Answer.{textOf, townSheet, sheetFor, sheetText}
+use Rattle.sheet_text.specs.Answer.{townSheet, sheetFor}
 use Rattle.sheet_text.specs.Question.{asksShift, departuresIn}
 use Rattle.sheet_text.proofs.Networks.{shortened-in-town}
 use Rattle.sheet_text.proofs.Questions.{kept-source, kept-departures, other-form, no-source, asks-source}
@@ -32,22 +31,14 @@ module _ (input : List ℕ) where
     unfolding sheetFor
     sheet-asked a = asked-so input _ short a
 
-    -- ---- The text, by what the code finds
+    -- ---- By what the code finds
 
-    text-not-asked : asksShift input ≡ false → sheetText input ≡ refusalText 25 0
-    unfolding sheetText
-    text-not-asked a = ap textOf (sheet-not-asked a)
-
-    pub text-other-form : ofForm markQU input ≡ false → sheetText input ≡ refusalText 25 0
-    text-other-form e = text-not-asked (other-form input e)
-
-  pub text-too-long : 65536 < length input → sheetText input ≡ refusalText 20 0
-  unfolding sheetText
-  text-too-long h = ap textOf (sheet-too-long h)
+    pub sheet-other-form : ofForm markQU input ≡ false → sheetFor input ≡ refusedAt 25 0
+    sheet-other-form e = sheet-not-asked (other-form input e)
 
   module _ {count next : ℕ} (line : NumbersAsked markQU input count next) where
-    pub text-no-source : length input ≤ 65536 → count ≡ 0 → sheetText input ≡ refusalText 25 0
-    text-no-source short none = text-not-asked short (no-source input (line .counted ∙ none))
+    pub sheet-no-source : length input ≤ 65536 → count ≡ 0 → sheetFor input ≡ refusedAt 25 0
+    sheet-no-source short none = sheet-not-asked short (no-source input (line .counted ∙ none))
 
     pub next-inside : next ≤ length input
     next-inside = omega (arith, rest-inside markQU input (line .form), line .behind)
@@ -66,9 +57,8 @@ module _ (input : List ℕ) where
       source-is : getD table 0 0 ≡ sourceIn input
       source-is = rw (copied, line .table (replicate 98 0)) (kept-source (numbersIn input) some-number)
 
-      pub text-asked : length input ≤ 65536 → sheetText input ≡ textOf (townSheet (drop next input) (getD table 0 0) departures)
-      unfolding sheetText
-      text-asked short =
+      pub sheet-of-line : length input ≤ 65536 → sheetFor input ≡ townSheet (drop next input) (getD table 0 0) departures
+      sheet-of-line short =
           let whole = sheet-asked short (asks-source input (line .form) some-number) in
           let part = shortened-in-town (townText input) (sourceIn input) (departuresIn input) in
-          ap textOf (whole ∙ sym part) ∙ rw (departures-are, source-is, ← line .behind)
+          whole ∙ sym part ∙ rw (departures-are, source-is, ← line .behind)

@@ -21,9 +21,9 @@ use Rattle.sheeting.proofs.Means.{figures-of-network-mean}
 use Rattle.sheeting.proofs.SheetRules.{none-listed, too-many-listed, count-kept}
 use Rattle.question_line.proofs.Answers.{rest-bytes}
 use Rattle.question_line.proofs.Towns.{answer-faulty, answer-described}
-use Rattle.formatting.specs.Texts.{refusalText}
+use Rattle.formatting.specs.Texts.{refusalText, answerText}
 use Rattle.formatting.proofs.Texts.{same-refusal}
-use Rattle.sheet_text.specs.Answer.{SheetFigures, sheetIn, networkSheet, townSheet, sheetFor, sheetLines, textOf, sheetText}
+use Rattle.sheet_text.specs.Answer.{SheetFigures, sheetIn, networkSheet, townSheet, sheetFor, sheetLines, linesOf, sheetText}
 use Rattle.sheet_text.specs.Meaning.{PrintedSheetMeans, SheetRefusalMeans, input-too-long, no-question, faulty-text, unknown-source, wrong-count, late-departure}
 use Rattle.sheet_text.specs.Meaning.{PrintsSheet, PrintsSheetRefusal, SheetOrRefusal}
 use Rattle.sheet_text.specs.Question.{asksShift, ShiftAndText}
@@ -204,7 +204,7 @@ prints-sheet input bytes junctions figures = (
   (λ m. (rw (meant-sheet input bytes m), four-each m)),
 )
   where
-    go : (answer : Reading SheetFigures) → Means input answer → textOf answer ≡ sheetLines figures 0 junctions → length figures ≡ 4 * junctions → PrintedSheetMeans input junctions figures
+    go : (answer : Reading SheetFigures) → Means input answer → answerText linesOf answer ≡ sheetLines figures 0 junctions → length figures ≡ 4 * junctions → PrintedSheetMeans input junctions figures
     go (refusedAt number line) m e long = absurd (sheet-no-refusal figures junctions number line (sym e))
     go (accepted sheet) m e long =
         let same = same-sheet (sheet .figures) figures (sheet .junctions) junctions (four-each m) long e in
@@ -214,7 +214,7 @@ pub prints-sheet-refusal : PrintsSheetRefusal
 unfolding sheetText
 prints-sheet-refusal input bytes number line = (go (sheetFor input) (means input bytes), (λ m. rw (meant-refusal input bytes m)))
   where
-    go : (answer : Reading SheetFigures) → Means input answer → textOf answer ≡ refusalText number line → SheetRefusalMeans input number line
+    go : (answer : Reading SheetFigures) → Means input answer → answerText linesOf answer ≡ refusalText number line → SheetRefusalMeans input number line
     go (refusedAt number′ line′) m e = let same = same-refusal number′ line′ number line e in rw (same .0, same .1) at m
     go (accepted sheet) m e = absurd (sheet-no-refusal (sheet .figures) (sheet .junctions) number line e)
 

@@ -52,8 +52,8 @@ unfoldable pub sheetLines : List ℕ → ℕ → ℕ → List ℕ
 sheetLines figures j zero = []
 sheetLines figures j (suc k) = lineOf figures j ++ sheetLines figures (suc j) k
 
-abbrev pub textOf : Reading SheetFigures → List ℕ
-textOf answer = answerText (λ sheet. sheetLines (sheet .figures) 0 (sheet .junctions)) answer
+abbrev pub linesOf : SheetFigures → List ℕ
+linesOf sheet = sheetLines (sheet .figures) 0 (sheet .junctions)
 
 unfoldable pub sheetText : List ℕ → List ℕ
-sheetText input = textOf (sheetFor input)
+sheetText input = answerText linesOf (sheetFor input)

@@ -1,5 +1,4 @@
 pub mod Answer
 pub mod Meaning
 pub mod Question
-pub mod Status
 pub mod code

@@ -1,16 +1,15 @@
-// A line for each junction, or the line of a refusal.
+// A line for each junction.
+ghost use mathlib.Core.Bool.{false};
 ghost use Prim.Native.Nat.{_*_, _≤_};
 ghost use lib.ListN.{length};
-ghost use Rattle.refusals.specs.Refusals.{numberOf};
 ghost use Rattle.formatting.specs.Putting.{PutIfRoom};
-ghost use Rattle.formatting.specs.Texts.{refusalText};
 ghost use Rattle.formatting.specs.code.Printed.{Printed};
 ghost use Rattle.sheet_text.specs.Answer.{spaced, sheetLine, sheetLines};
 ghost use Rattle.sheet_text.specs.code.Parts.{LinesFit};
 use formatting::put::put_byte;
 use formatting::put::put_number;
-use formatting::put::put_refusal;
-use refusals::refusal::Refusal;
+use formatting::text::OUTPUT;
+use formatting::text::Text;
 use sheeting::sheet::FIGURES;
 use townfile::mark::LINE_FEED;
 use townfile::mark::SPACE;
@@ -64,15 +63,13 @@ fn put_lines(output: &mut [u8], junctions: usize, figures: &[u32]) -> usize
     end
 }
 
-pub(crate) fn put_sheet(output: &mut [u8; 8192], junctions: u32, figures: &[u32]) -> usize
+pub(crate) fn put_sheet(output: &mut [u8; OUTPUT], junctions: u32, figures: &[u32]) -> Text
     requires { ⌜ LinesFit junctions (now figures) ⌝ }
-    ensures { λ r. ⌜ Printed (sheetLines (now (figures .entry)) 0 junctions) (now (output .entry)) (now (output .exit)) r ⌝ }
+    ensures { λ r. ⌜ Printed (sheetLines (now (figures .entry)) 0 junctions) false (now (output .entry)) (now (output .exit)) r ⌝ }
 {
-    put_lines(output, junctions as usize, figures)
-}
-
-pub(crate) fn refuse(output: &mut [u8; 8192], refusal: Refusal, line: u32) -> usize
-    ensures { λ r. ⌜ Printed (refusalText (numberOf refusal) line) (now (output .entry)) (now (output .exit)) r ⌝ }
-{
-    put_refusal(output, 0, refusal, line)
+    let length = put_lines(output, junctions as usize, figures);
+    Text {
+        length,
+        refused: false,
+    }
 }

@@ -9,11 +9,14 @@ ghost use Rattle.model.specs.Rules.{replied, written};
 ghost use Rattle.townfile.specs.Load.{counts, LongEnough, networkAt};
 ghost use Rattle.townfile.specs.Lent.{lentTables, tablesIn};
 ghost use Rattle.sheeting.specs.Sheet.{outcomeOf, sheetAnswer, sheetFiguresAfter};
-ghost use Rattle.formatting.specs.code.Printed.{Printed};
-ghost use Rattle.sheet_text.specs.Answer.{textOf, networkSheet, townSheet, sheetText};
+ghost use Rattle.formatting.specs.Texts.{isRefusal};
+ghost use Rattle.formatting.specs.code.Printed.{PrintedAnswer};
+ghost use Rattle.sheet_text.specs.Answer.{networkSheet, townSheet, sheetFor, linesOf, sheetText};
 ghost use Rattle.sheet_text.specs.code.Parts.{PartsFit};
 use crate::lines::put_sheet;
-use crate::lines::refuse;
+use formatting::text::OUTPUT;
+use formatting::text::Text;
+use formatting::text::refuse;
 use loading::load::Loaded;
 use loading::load::load;
 use model::limit::MAX_ARCS;
@@ -83,11 +86,11 @@ fn network_sheet(
     speeds: &[u8],
     source: u32,
     departures: &[u32],
-    output: &mut [u8; 8192],
-) -> usize
+    output: &mut [u8; OUTPUT],
+) -> Text
     requires { ⌜ networkCheck (networkIn junctions fences tails heads lengths holds speeds) ≡ replied tt ⌝ }
     requires { ⌜ length (now departures) ≤ 97 ⌝ }
-    ensures { λ r. ⌜ Printed (textOf (networkSheet (lentNetwork junctions fences tails heads lengths holds speeds) source (now (departures .entry))))
+    ensures { λ r. ⌜ PrintedAnswer linesOf (networkSheet (lentNetwork junctions fences tails heads lengths holds speeds) source (now (departures .entry)))
         (now (output .entry)) (now (output .exit)) r ⌝ }
 {
     let mut labels = [0u32; LISTED * MAX_JUNCTIONS];
@@ -122,13 +125,13 @@ fn loaded_sheet(
     speeds: &[u8],
     source: u32,
     departures: &[u32],
-    output: &mut [u8; 8192],
-) -> usize
+    output: &mut [u8; OUTPUT],
+) -> Text
     requires { ⌜ arcs ≤ maxArcs ⌝ }
     requires { ⌜ LongEnough (counts junctions intervals arcs) (tablesIn fences tails heads lengths speeds) ⌝ }
     requires { ⌜ networkCheck (networkAt (counts junctions intervals arcs) (tablesIn fences tails heads lengths speeds)) ≡ replied tt ⌝ }
     requires { ⌜ length (now departures) ≤ 97 ⌝ }
-    ensures { λ r. ⌜ Printed (textOf (networkSheet (networkAt (counts junctions intervals arcs) (lentTables fences tails heads lengths speeds)) source (now (departures .entry))))
+    ensures { λ r. ⌜ PrintedAnswer linesOf (networkSheet (networkAt (counts junctions intervals arcs) (lentTables fences tails heads lengths speeds)) source (now (departures .entry)))
         (now (output .entry)) (now (output .exit)) r ⌝ }
 {
     let width = intervals as usize;
@@ -151,9 +154,9 @@ fn loaded_sheet(
 }
 
 // The sheet of the town of a town file.
-fn town_sheet(text: &[u8], source: u32, departures: &[u32], output: &mut [u8; 8192]) -> usize
+fn town_sheet(text: &[u8], source: u32, departures: &[u32], output: &mut [u8; OUTPUT]) -> Text
     requires { ⌜ length (now departures) ≤ 97 ⌝ }
-    ensures { λ r. ⌜ Printed (textOf (townSheet (now (text .entry)) source (now (departures .entry)))) (now (output .entry)) (now (output .exit)) r ⌝ }
+    ensures { λ r. ⌜ PrintedAnswer linesOf (townSheet (now (text .entry)) source (now (departures .entry))) (now (output .entry)) (now (output .exit)) r ⌝ }
 {
     let mut fences = [0u32; MAX_INTERVALS];
     let mut tails = [0u16; MAX_ARCS];
@@ -197,8 +200,9 @@ fn kept_count(count: usize) -> usize
 }
 
 // The first number is the source, and the others are the departures.
-pub fn sheet_text(input: &[u8], output: &mut [u8; 8192]) -> usize
-    ensures length { λ r. ⌜ r ≡ length (sheetText (now (input .entry))) ⌝ }
+pub fn sheet_text(input: &[u8], output: &mut [u8; OUTPUT]) -> Text
+    ensures length { λ r. ⌜ r .length ≡ length (sheetText (now (input .entry))) ⌝ }
+    ensures refused { λ r. ⌜ r .refused ≡ isRefusal (sheetFor (now (input .entry))) ⌝ }
     ensures output { λ _. ⌜ now (output .exit) ≡ written (sheetText (now (input .entry))) (now (output .entry)) ⌝ }
 {
     if MAX_TEXT < input.len() {

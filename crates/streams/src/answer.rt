@@ -1,22 +1,20 @@
-// A program's answer: its input has room for every input that it answers, and its text is written with an exit status.
-ghost use Rattle.formatting.specs.Status.{statusOf};
-ghost use Rattle.streams.specs.Exit.{AnswersOrFails};
+// A program's answer: its text is written, and its exit status says what became of it.
+ghost use Rattle.streams.specs.Exit.{statusWhen, AnswersOrFails};
 use crate::output::write_all;
-use formatting::exit::exit_status;
 use libc::STDOUT_FILENO;
 
-// One byte more than an input may have, so that a longer one is seen to be longer without being read to its end.
-pub const ROOM: usize = 65_537;
+const ANSWERED: i32 = 0;
+
+const REFUSED: i32 = 1;
 
 // The status where the input was not read or the output not written.
 pub const FAILED: i32 = 2;
 
-pub fn print_answer(text: &[u8]) -> i32
-    ensures { λ r. ⌜ AnswersOrFails (statusOf (now (text .entry))) r ⌝ }
+pub fn print_answer(text: &[u8], refused: bool) -> i32
+    ensures { λ r. ⌜ AnswersOrFails (statusWhen refused) r ⌝ }
 {
-    if write_all(STDOUT_FILENO, b"standard output", text) {
-        exit_status(text)
-    } else {
-        FAILED
+    if !write_all(STDOUT_FILENO, b"standard output", text) {
+        return FAILED;
     }
+    if refused { REFUSED } else { ANSWERED }
 }

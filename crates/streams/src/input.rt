@@ -2,6 +2,10 @@
 ghost use Rattle.streams.specs.Transfer.{Within};
 use crate::transfer::MAX_TRIES;
 use crate::transfer::Transfer;
+use libc::STDIN_FILENO;
+
+// One byte more than an input may have, so that a longer one is seen to be longer without being read to its end.
+pub const ROOM: usize = 65_537;
 
 // One read, tried again where it is interrupted. It moves no bytes where the input ends.
 fn read_part(descriptor: i32, part: &mut [u8]) -> Transfer
@@ -37,4 +41,10 @@ pub fn read_all(descriptor: i32, name: &[u8], buffer: &mut [u8]) -> Transfer
         length += count;
     }
     Transfer::Bytes(length)
+}
+
+pub fn read_input(input: &mut [u8; ROOM]) -> Transfer
+    ensures { λ r. ⌜ Within r (now (input .exit)) ⌝ }
+{
+    read_all(STDIN_FILENO, b"standard input", input)
 }

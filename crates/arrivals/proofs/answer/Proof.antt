@@ -1,28 +1,23 @@
--- `answer`: the output begins with the text, so the text is the part of that length, and its status is the answer's.
+-- `answer`: the output begins with the text, so the text is the part of that length, and whether it is a refusal is told.
 use borrow.Author.Needs.{needs}
 use Prim.Native.Nat.{_≤_}
-use mathlib.Core.Path.{ap, _∙_}
-use denote.Ref.{now}
 use mir.Syntax.{w32}
 use mir.ValLaws.{toZ-ofZ}
 use lib.ListN.{length}
 use Rattle.io.proofs.Counting.{front}
-use Rattle.formatting.specs.Status.{statusOf}
 use Rattle.arrivals_text.specs.Answer.{arrivalsText}
-use Rattle.arrivals_text.proofs.Status.{arrivals-status-tells}
-use Rattle.streams.proofs.Exit.{text-inside, text-begins}
+use Rattle.streams.proofs.Exit.{text-inside}
 use Rattle.arrivals.proofs.answer.Statement.{statement}
 use Rattle.arrivals.proofs.answer.Tie as tie
 
-inside : (c : tie.After-arrivals) → c .arrivals .result ≤ length (c .arrivals .last .1 .0)
-inside c = let printed = c .arrivals .ensures in text-inside (arrivalsText _) _ (printed .0) (printed .1)
+inside : (c : tie.After-arrivals) → c .arrivals .result .length ≤ length (c .arrivals .last .1 .0)
+inside c = let (counted, (told, holds)) = c .arrivals .ensures in text-inside (arrivalsText _) _ counted holds
 
 returns : tie.Need-returns
 returns c =
-    let printed = c .before .before .arrivals .ensures in
-    let input = now (c .before .before .before .before .before .args .input) in
-    let same = ap statusOf (text-begins (arrivalsText input) _ (printed .0) (printed .1)) ∙ arrivals-status-tells input in
-    rw (toZ-ofZ w32 (c .print-answer .result) (record { sfits = c .print-answer .ok })) (rw same at (c .print-answer .ensures))
+    let called : tie.After-arrivals = search in
+    let (counted, (told, holds)) = called .arrivals .ensures in
+    rw (toZ-ofZ w32 (c .print-answer .result) (record { sfits = c .print-answer .ok })) (rw told at (c .print-answer .ensures))
 
 pub answer-spec : {M : Type 1} → statement M
 answer-spec =

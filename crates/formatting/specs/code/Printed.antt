@@ -1,11 +1,20 @@
 -- What a program's parts say of the whole output.
-use Prim.Native.Nat.{ℕ}
 use mathlib.Core.Path.{_≡_}
+use mathlib.Core.Bool.{Bool}
 use mathlib.Core.List.{List}
+use Prim.Native.Nat.{ℕ}
 use lib.ListN.{length}
 use Rattle.model.specs.Rules.{written}
+use Rattle.townfile.specs.FirstFault.{Reading}
+use Rattle.formatting.specs.Texts.{answerText, isRefusal}
+use Rattle.formatting.specs.declared.text.Text.{Text}
 
--- The buffer begins with a text; the answer is its length.
-pub record Printed (text before after : List ℕ) (count : ℕ) : Type 0 where
-  pub counted : count ≡ length text
+-- The output begins with a text, which is a refusal or is none; so it is said.
+pub record Printed (text : List ℕ) (refusal : Bool) (before after : List ℕ) (said : Text) : Type 0 where
+  pub counted : said .length ≡ length text
+  pub told : said .refused ≡ refusal
   pub holds : after ≡ written text before
+
+-- The text is that of an answer.
+abbrev pub PrintedAnswer : {Reply : Type 0} → (Reply → List ℕ) → Reading Reply → List ℕ → List ℕ → Text → Type 0
+PrintedAnswer print answer before after said = Printed (answerText print answer) (isRefusal answer) before after said

@@ -1,28 +1,23 @@
--- `answer`: the output begins with the text, so the text is the part of that length, and its status is the answer's.
+-- `answer`: the output begins with the text, so the text is the part of that length, and whether it is a refusal is told.
 use borrow.Author.Needs.{needs}
 use Prim.Native.Nat.{_≤_}
-use mathlib.Core.Path.{ap, _∙_}
-use denote.Ref.{now}
 use mir.Syntax.{w32}
 use mir.ValLaws.{toZ-ofZ}
 use lib.ListN.{length}
 use Rattle.io.proofs.Counting.{front}
-use Rattle.formatting.specs.Status.{statusOf}
 use Rattle.sheet_text.specs.Answer.{sheetText}
-use Rattle.sheet_text.proofs.Status.{sheet-status-tells}
-use Rattle.streams.proofs.Exit.{text-inside, text-begins}
+use Rattle.streams.proofs.Exit.{text-inside}
 use Rattle.sheet.proofs.answer.Statement.{statement}
 use Rattle.sheet.proofs.answer.Tie as tie
 
-inside : (c : tie.After-sheet-text) → c .sheet-text .result ≤ length (c .sheet-text .last .1 .0)
-inside c = let printed = c .sheet-text .ensures in text-inside (sheetText _) _ (printed .0) (printed .1)
+inside : (c : tie.After-sheet-text) → c .sheet-text .result .length ≤ length (c .sheet-text .last .1 .0)
+inside c = let (counted, (told, holds)) = c .sheet-text .ensures in text-inside (sheetText _) _ counted holds
 
 returns : tie.Need-returns
 returns c =
-    let printed = c .before .before .sheet-text .ensures in
-    let input = now (c .before .before .before .before .before .args .input) in
-    let same = ap statusOf (text-begins (sheetText input) _ (printed .0) (printed .1)) ∙ sheet-status-tells input in
-    rw (toZ-ofZ w32 (c .print-answer .result) (record { sfits = c .print-answer .ok })) (rw same at (c .print-answer .ensures))
+    let called : tie.After-sheet-text = search in
+    let (counted, (told, holds)) = called .sheet-text .ensures in
+    rw (toZ-ofZ w32 (c .print-answer .result) (record { sfits = c .print-answer .ok })) (rw told at (c .print-answer .ensures))
 
 pub answer-spec : {M : Type 1} → statement M
 answer-spec =

@@ -1,63 +1,62 @@
 -- `arrivals::arrivals`: the input's length, its first line, and the town file behind it, in turn.
-use Prim.Native.Nat.{ℕ}
-use mathlib.Core.List.{List}
-use mathlib.Core.Path.{_≡_, sym, _∙_}
-use lib.ListN.{length}
+use borrow.Author.Needs.{needs}
+use mathlib.Core.Path.{sym, _∙_}
 use denote.Ref.{now}
 use borrow.Rule.Slice.PartAt.{part-to-end}
-use Rattle.model.specs.Rules.{written}
-use Rattle.formatting.specs.code.Printed.{Printed}
-use Rattle.arrivals_text.proofs.Answers.{TextAsked, text-too-long, text-not-asked, text-asked}
-use borrow.Author.Needs.{needs}
+use Rattle.formatting.proofs.Putting.{answer-printed}
+use Rattle.arrivals_text.specs.Answer.{tableOf, arrivalsText}
+use Rattle.arrivals_text.proofs.Answers.{QuestionAsked, answer-too-long, question-malformed, question-asked}
 use Rattle.arrivals_text.proofs.arrivals.arrivals.Statement.{statement}
 use Rattle.arrivals_text.proofs.arrivals.arrivals.Tie as tie
 
-both : {text before after : List ℕ} {count : ℕ} → Printed text before after count → (count ≡ length text) × (after ≡ written text before)
-both p = (p .counted, p .holds)
+too-long : tie.Need-returns
+unfolding arrivalsText
+too-long c = answer-printed tableOf (answer-too-long _ (c .before .before .if1 .taken)) (c .refuse .ensures)
 
--- the question that was found
-abbrev begun : tie.After-known-told → tie.Start
-begun c = c .before .before .before .before .before .before
+malformed : tie.Need-returns-2
+unfolding arrivalsText
+malformed c =
+    let short : tie.Else1 = search in
+    let read : tie.After-question-in = search in
+    let told : tie.After-enum-told = search in
+    answer-printed tableOf (question-malformed _ (short .if1 .left) (sym (read .question-in .ensures) ∙ told .enum-told .given .1)) (c .refuse2 .ensures)
 
-question-asked : (c : tie.After-known-told) →
-    TextAsked (now (begun c .args .input)) (c .before .source .given .0 .0) (c .before .source .given .0 .1 .0) (c .before .source .given .0 .1 .1 .0)
-question-asked c = text-asked _ (sym (c .before .before .before .question-in .ensures) ∙ c .before .source .given .1)
+-- ---- Where the question has its form
 
-returns : tie.Need-returns
-returns c = rw (text-too-long _ (c .before .before .if1 .taken)) (both (c .refuse .ensures))
+abbrev begun : tie.After-source → tie.Start
+begun c = search
 
-returns-2 : tie.Need-returns-2
-returns-2 c =
-    let read = c .before .before .before .before in
-    let none = sym (read .question-in .ensures) ∙ c .before .before .enum-told .given .1 in
-    rw (text-not-asked _ (read .before .if1 .left) none) (both (c .refuse2 .ensures))
+asked : (c : tie.After-source) →
+    let fields = c .source .given .0 in QuestionAsked (now (begun c .args .input)) (fields .0) (fields .1 .0) (fields .1 .1 .0)
+asked c = let read : tie.After-question-in = search in question-asked _ (sym (read .question-in .ensures) ∙ c .source .given .1)
 
-sub-town-arrivals : tie.Need-sub-town-arrivals
-sub-town-arrivals c = question-asked c .inside
+town-inside : tie.Need-sub-town-arrivals
+town-inside c = asked (c .before) .inside
 
-part-town-arrivals-start : tie.Need-part-town-arrivals-start
-part-town-arrivals-start c = question-asked c .inside
+town-starts-inside : tie.Need-part-town-arrivals-start
+town-starts-inside c = asked (c .before) .inside
 
-returns-3 : tie.Need-returns-3
-returns-3 c =
-    let told = c .before .before .before in
-    let short = told .before .before .before .before .if1 .left in
-    let town = part-to-end (now (begun told .args .input)) (told .before .source .given .0 .1 .1 .0) in
-    rw (question-asked told .answers short) (both (rw town at (c .town-arrivals .ensures)))
+answered : tie.Need-returns-3
+unfolding arrivalsText
+answered c =
+    let short : tie.Else1 = search in
+    let found : tie.After-source = search in
+    let town = part-to-end (now (begun found .args .input)) (found .source .given .0 .1 .1 .0) in
+    answer-printed tableOf (asked found .answers (short .if1 .left)) (rw town at (c .town-arrivals .ensures))
 
 pub arrivals-spec : {M : Type 1} → statement M
 arrivals-spec =
     tie.close
     (tie.spec
     (λ c κs. search needs)
-    returns
+    too-long
     (λ c κs. search needs)
     (λ c. search needs)
     (λ c. search needs)
     (λ c κs. search needs)
-    returns-2
-    sub-town-arrivals
-    part-town-arrivals-start
+    malformed
+    town-inside
+    town-starts-inside
     (λ c. search needs)
     (λ c κs. search needs)
-    returns-3)
+    answered)

@@ -1,5 +1,6 @@
 -- `table::put_table`: the output has room for the header and the lines.
 use borrow.Author.Needs.{needs}
+use mathlib.Core.Bool.{false}
 use native.Mathlib.Omega.{arith}
 use Rattle.formatting.proofs.Putting.{put-printed}
 use Rattle.arrivals_text.proofs.Lines.{table-fits}
@@ -10,7 +11,7 @@ returns : tie.Need-returns
 returns c =
     let known = c .before .before .before in
     let short = table-fits (known .before .pre) (λ j h. omega (arith, known .shared-slice-known .given j)) in
-    put-printed (c .put-header-and-lines .ensures) (omega (arith, short, c .before .put-header-and-lines-arg .given))
+    put-printed false (c .put-header-and-lines .ensures) (omega (arith, short, c .before .put-header-and-lines-arg .given))
 
 pub put-table-spec : {M : Type 1} → statement M
 put-table-spec = tie.close (tie.spec (λ c κs. search needs) returns)

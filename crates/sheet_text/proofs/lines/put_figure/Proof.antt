@@ -6,8 +6,8 @@ use Rattle.sheet_text.proofs.lines.put_figure.Tie as tie
 
 returns : tie.Need-returns
 returns c =
-    let number = c .before .before in
-    let gap = number .before .before .before .before in
+    let gap : tie.After-put-byte = search in
+    let number : tie.After-put-number = search in
     room-then (gap .put-byte .ensures) (number .put-number .ensures)
 
 pub put-figure-spec : {M : Type 1} → statement M

@@ -8,12 +8,12 @@ use Rattle.sheet_text.proofs.lines.put_line.Tie as tie
 returns : tie.Need-returns
 unfolding sheetLine
 returns c =
-    let ended = c .before .before in
-    let sum = ended .before .before .before .before in
-    let greatest = sum .before .before .before .before in
-    let least = greatest .before .before .before .before in
-    let count = least .before .before .before .before in
-    let junction = count .before .before .before .before in
+    let ended : tie.After-put-byte = search in
+    let sum : tie.After-put-figure4 = search in
+    let greatest : tie.After-put-figure3 = search in
+    let least : tie.After-put-figure2 = search in
+    let count : tie.After-put-figure = search in
+    let junction : tie.After-put-number = search in
     room-then (junction .put-number .ensures)
     (room-then (count .put-figure .ensures)
     (room-then (least .put-figure2 .ensures)

@@ -24,14 +24,15 @@ loop-holds c = (refl, omega arith, nothing-put _ _)
 
 loop-again : tie.Need-loop-again Inv-loop μ-loop
 loop-again c =
-    let called = c .before .before in
-    let turn = called .before .before .before .before .before .before .before in
+    let turn : tie.At-loop Inv-loop μ-loop = search in
+    let called : tie.After-put-line Inv-loop μ-loop = search in
     (called .put-line .kept .0 ∙ turn .loop .inv .0, omega arith, line-put _ _ (turn .loop .inv .2) (called .put-line .ensures))
 
 returns : tie.Need-returns Inv-loop μ-loop
 returns c =
+    let start : tie.Start Inv-loop μ-loop = search in
     let turn = c .before .loop in
-    let all : turn .junction ≡ c .before .before .before .before .args .junctions = omega (arith, c .loop-test .left, turn .inv .1) in
+    let all : turn .junction ≡ start .args .junctions = omega (arith, c .loop-test .left, turn .inv .1) in
     rw all at (turn .inv .2)
 
 pub put-lines-spec : {M : Type 1} → statement M

@@ -1,5 +1,6 @@
 -- `lines::put_sheet`: the output has room for the lines.
 use borrow.Author.Needs.{needs}
+use mathlib.Core.Bool.{false}
 use native.Mathlib.Omega.{arith}
 use Rattle.formatting.proofs.Putting.{put-printed}
 use Rattle.sheet_text.proofs.LineByLine.{lines-fit}
@@ -10,7 +11,7 @@ returns : tie.Need-returns
 returns c =
     let known = c .before .before in
     let short = lines-fit _ (λ i h. omega (arith, known .shared-slice-known .given i)) (known .before .pre) in
-    put-printed (c .put-lines .ensures) (omega (arith, short, c .before .put-lines-arg .given))
+    put-printed false (c .put-lines .ensures) (omega (arith, short, c .before .put-lines-arg .given))
 
 pub put-sheet-spec : {M : Type 1} → statement M
 put-sheet-spec = tie.close (tie.spec (λ c κs. search needs) returns)

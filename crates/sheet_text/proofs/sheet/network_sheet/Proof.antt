@@ -9,8 +9,11 @@ use lib.Seq.{length-take-le}
 use denote.Ref.{now}
 use Rattle.model.specs.Network.{Network, network}
 use Rattle.model.specs.Rules.{replied}
+use Rattle.townfile.specs.FirstFault.{accepted}
 use Rattle.sheeting.specs.Sheet.{outcomeOf, sheetAnswer}
 use Rattle.sheeting.specs.declared.sheet.Sheeted.the-variants.{Written}
+use Rattle.sheet_text.specs.Answer.{sheetIn, networkSheet, sheetLines, linesOf}
+use Rattle.sheet_text.specs.code.Parts.{LinesFit}
 use Rattle.sheet_text.proofs.Networks.{few-junctions, sheet-refused, sheet-written, sheet-fits, sheet-lines}
 use borrow.Author.Needs.{needs}
 use Rattle.sheet_text.proofs.sheet.network_sheet.Statement.{statement}
@@ -38,44 +41,64 @@ labels-long s = length-take-le _ (replicate 19400 0) (rw (length-replicate {A = 
 figures-long : (s : tie.Start) → length (figures s) ≡ 4 * s .args .junctions
 figures-long s = length-take-le _ (replicate 800 0) (rw (length-replicate {A = ℕ} 800 0) (omega (arith, few s)))
 
-abbrev begun : tie.After-sheet-parts → tie.Start
-begun c = c .before .before .before .before .before .before .before .before .before .before
-
-is-written : (c : tie.After-sheet-parts) → c .sheet-parts .result ≡ Written →
-    let s = begun c in replied tt ≡ sheetAnswer (N s) (s .args .source) (departures s) (labels s) (figures s)
-is-written c told = ap outcomeOf (sym told) ∙ c .sheet-parts .ensures .0
-
--- the table of figures still has its length
-long : (c : tie.After-sheet-parts) → 4 * begun c .args .junctions ≤ length (c .sheet-parts .last .1 .1 .1 .1 .1 .1 .1 .1 .1 .1 .0)
-long c = omega (arith, few (begun c), c .sheet-parts .kept .1 .1 .1 .1 .1 .1 .1 .1 .1 .1 .0)
-
 sheet-parts-requires : tie.Need-sheet-parts-requires
 sheet-parts-requires c κs =
-    let s = c .before .before .before .before .before .before .before .before .before in
-    record { few-junctions = few s; few-departures = s .pre .1; labels-long = omega (arith, length-replicate {A = ℕ} 19400 0); figures-long = omega (arith, length-replicate {A = ℕ} 800 0) }
+    let s : tie.Start = search in
+    record {
+      few-junctions = few s;
+      few-departures = s .pre .1;
+      labels-long = omega (arith, length-replicate {A = ℕ} 19400 0);
+      figures-long = omega (arith, length-replicate {A = ℕ} 800 0);
+    }
 
-put-sheet-requires : tie.Need-put-sheet-requires
-put-sheet-requires c κs =
-    let called = c .before .before .before .before .before .before in
-    let s = begun called in
-    let written = is-written called (c .before .before .enum-told .given .1) in
-    sheet-fits (N s) _ _ (s .pre .0) (labels s) (figures s) (labels-long s) (figures-long s) written _ (long called) (called .sheet-parts .ensures .1)
+-- ---- Where the sheet was called
+
+abbrev begun : tie.After-sheet-parts → tie.Start
+begun c = search
 
 returns : tie.Need-returns
 returns c =
-    let called = c .before .before .before .before .before .before .before in
+    let called : tie.After-sheet-parts = search in
+    let found : tie.After-refusal = search in
     let s = begun called in
-    let refuses = ap outcomeOf (sym (c .before .before .before .refusal .given .1)) ∙ called .sheet-parts .ensures .0 in
+    let refuses = ap outcomeOf (sym (found .refusal .given .1)) ∙ called .sheet-parts .ensures .0 in
     rw (sheet-refused (N s) _ _ (s .pre .0) (labels s) (figures s) (labels-long s) (figures-long s) refuses) (c .refuse .ensures)
+
+-- Where it has written, the figures stand at the table's start.
+module _ (c : tie.After-sheet-parts) (told : c .sheet-parts .result ≡ Written) where
+  abbrev s : tie.Start
+  s = begun c
+
+  abbrev table : List ℕ
+  table = c .sheet-parts .last .1 .1 .1 .1 .1 .1 .1 .1 .1 .1 .0
+
+  is-written : replied tt ≡ sheetAnswer (N s) (s .args .source) (departures s) (labels s) (figures s)
+  is-written = ap outcomeOf (sym told) ∙ c .sheet-parts .ensures .0
+
+  long : 4 * s .args .junctions ≤ length table
+  long = omega (arith, few s, c .sheet-parts .kept .1 .1 .1 .1 .1 .1 .1 .1 .1 .1 .0)
+
+  fits : LinesFit (s .args .junctions) table
+  fits = sheet-fits (N s) _ _ (s .pre .0) (labels s) (figures s) (labels-long s) (figures-long s) is-written table long (c .sheet-parts .ensures .1)
+
+  answers : networkSheet (N s) (s .args .source) (departures s) ≡ accepted (sheetIn (N s) (s .args .source) (departures s))
+  answers = sheet-written (N s) _ _ (s .pre .0) (labels s) (figures s) (labels-long s) (figures-long s) is-written
+
+  lines : sheetLines table 0 (s .args .junctions) ≡ linesOf (sheetIn (N s) (s .args .source) (departures s))
+  lines = sheet-lines (N s) _ _ (s .pre .0) (labels s) (figures s) (labels-long s) (figures-long s) is-written table long (c .sheet-parts .ensures .1)
+
+put-sheet-requires : tie.Need-put-sheet-requires
+put-sheet-requires c κs =
+    let called : tie.After-sheet-parts = search in
+    let found : tie.After-enum-told = search in
+    fits called (found .enum-told .given .1)
 
 returns-2 : tie.Need-returns-2
 returns-2 c =
-    let called = c .before .before .before .before .before .before .before in
-    let s = begun called in
-    let written = is-written called (c .before .before .before .enum-told .given .1) in
-    let answer = sheet-written (N s) _ _ (s .pre .0) (labels s) (figures s) (labels-long s) (figures-long s) written in
-    let lines = sheet-lines (N s) _ _ (s .pre .0) (labels s) (figures s) (labels-long s) (figures-long s) written _ (long called) (called .sheet-parts .ensures .1) in
-    rw answer (rw lines at (c .put-sheet .ensures))
+    let called : tie.After-sheet-parts = search in
+    let found : tie.After-enum-told = search in
+    let told = found .enum-told .given .1 in
+    rw (answers called told) (rw (lines called told) at (c .put-sheet .ensures))
 
 pub network-sheet-spec : {M : Type 1} → statement M
 network-sheet-spec =

@@ -20,24 +20,38 @@ few-figures s = omega (arith, s .pre .few-junctions, s .pre .figures-long)
 labels-inside : (s : tie.Start) → length (now (s .args .departures)) * s .args .junctions ≤ length (now (s .args .labels))
 labels-inside s = omega (arith, few-labels s, s .pre .labels-long)
 
+labels-count : tie.Need-mul-labels-end
+labels-count c = let s : tie.Start = search in omega (arith, few-labels s)
+
+labels-lent : tie.Need-slice-relend-prefix-sheet
+labels-lent c = let s : tie.Start = search in labels-inside s
+
+labels-long : tie.Need-slice-aggregate-sheet
+labels-long c = sym (length-take-le _ _ (labels-lent (c .before)))
+
+figures-long : tie.Need-slice-aggregate-sheet-2
+figures-long c = let s : tie.Start = search in sym (length-take-le _ _ (few-figures s))
+
 returns : tie.Need-returns
 returns c =
-    let called = c .before .before .before .before .sheet in
-    let start = c .before .before .before .before .before .before .before .before .before .before .before .before .before .before .before .before in
-    let count = 4 * start .args .junctions in
-    let part = length-take-le count (now (start .args .figures)) (few-figures start) in
-    (called .ensures .0, take-at _ _ count (called .kept .1 .1 .1 .1 .1 .1 .1 .1 .1 .1 .0 ∙ part) ∙ called .ensures .1 .1)
+    let s : tie.Start = search in
+    let called : tie.After-sheet = search in
+    let count = 4 * s .args .junctions in
+    let part = length-take-le count (now (s .args .figures)) (few-figures s) in
+    let as-long = called .sheet .kept .1 .1 .1 .1 .1 .1 .1 .1 .1 .1 .0 in
+    let (answers, (labels-are, figures-are)) = called .sheet .ensures in
+    (answers, take-at _ _ count (as-long ∙ part) ∙ figures-are)
 
 pub sheet-parts-spec : {M : Type 1} → statement M
 sheet-parts-spec =
     tie.close
     (tie.spec
-    (λ c. omega (arith, few-labels (c .before .before .before .before .before .before .before .before .before)))
+    labels-count
     (λ c. search needs)
-    (λ c. labels-inside (c .before .before .before .before .before .before .before .before .before))
-    (λ c. sym (length-take-le _ _ (labels-inside (c .before .before .before .before .before .before .before .before .before .before))))
+    labels-lent
+    labels-long
     (λ c. search needs)
-    (λ c. sym (length-take-le _ _ (few-figures (c .before .before .before .before .before .before .before .before .before .before .before))))
+    figures-long
     (λ c κs. search needs)
     (λ c. search needs)
     (λ c. search needs)

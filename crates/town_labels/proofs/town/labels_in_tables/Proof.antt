@@ -1,13 +1,13 @@
--- `arrivals::loaded_arrivals`: each part is as long as asked, since its table is no shorter.
+-- `town::labels_in_tables`: each part is as long as asked, since its table is no shorter, and Labels answers for the network that they make.
+use borrow.Author.Needs.{needs}
 use mathlib.Core.Path.{sym}
 use native.Mathlib.Omega.{arith}
 use lib.Seq.{length-take-le}
-use borrow.Author.Needs.{needs}
-use Rattle.arrivals_text.proofs.arrivals.loaded_arrivals.Statement.{statement}
-use Rattle.arrivals_text.proofs.arrivals.loaded_arrivals.Tie as tie
+use Rattle.town_labels.proofs.town.labels_in_tables.Statement.{statement}
+use Rattle.town_labels.proofs.town.labels_in_tables.Tie as tie
 
-pub loaded-arrivals-spec : {M : Type 1} → statement M
-loaded-arrivals-spec =
+pub labels-in-tables-spec : {M : Type 1} → statement M
+labels-in-tables-spec =
     tie.close
     (tie.spec
     (λ c. search needs)
@@ -19,4 +19,6 @@ loaded-arrivals-spec =
     (λ c. sym (length-take-le _ _ (omega arith)))
     (λ c. sym (length-take-le _ _ (omega arith)))
     (λ c κs. search needs)
+    (λ c. search needs)
+    (λ c. search needs)
     (λ c. search needs))

@@ -20,7 +20,8 @@ use Rattle.arrivals_text.specs.code.Tables.{TableFits}
 -- ---- A line more
 
 pub line-more : (k j : ℕ) (labels predecessors : List ℕ) → length predecessors ≡ length labels → j < length labels →
-    junctionLines k (take (suc j) labels) (take (suc j) predecessors) ≡ junctionLines k (take j labels) (take j predecessors) ++ junctionLine (k + j) (getD labels j 0) (getD predecessors j 0)
+    junctionLines k (take (suc j) labels) (take (suc j) predecessors)
+    ≡ junctionLines k (take j labels) (take j predecessors) ++ junctionLine (k + j) (getD labels j 0) (getD predecessors j 0)
 unfolding junctionLines
 line-more k j [] predecessors same h = absurd (omega arith)
 line-more k j (label ∷ labels) [] same h = absurd (omega arith)
@@ -63,7 +64,8 @@ lines-short junction (label ∷ labels) (predecessor ∷ predecessors) few below
     rw (length-append (junctionLine junction label predecessor) (junctionLines (suc junction) labels predecessors))
     (omega (arith, length-line junction label predecessor, digits-short junction 2 (omega arith), number-short never label (below 0 (omega arith)), short 0 (omega arith)))
 
-pub table-fits : {labels predecessors : List ℕ} → TableFits labels predecessors → ((j : ℕ) → j < length labels → getD labels j 0 < tens 10) → length (tableText labels predecessors) ≤ 4096
+pub table-fits : {labels predecessors : List ℕ} → TableFits labels predecessors → ((j : ℕ) → j < length labels → getD labels j 0 < tens 10) →
+    length (tableText labels predecessors) ≤ 4096
 unfolding tableText
 table-fits {labels} {predecessors} table below =
     let lines = lines-short 0 labels predecessors (omega (arith, table .few)) below (table .same-length) (table .short) in

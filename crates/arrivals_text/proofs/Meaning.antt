@@ -21,7 +21,8 @@ use Rattle.formatting.specs.Texts.{refusalText, answerText}
 use Rattle.formatting.proofs.Texts.{same-refusal}
 use Rattle.town_labels.specs.Labelling.{Labelling, labellingOf, networkLabelling, townLabelling}
 use Rattle.arrivals_text.specs.Answer.{answerTo, tableText, tableOf, arrivalsText}
-use Rattle.arrivals_text.specs.Meaning.{TableMeans, RefusalMeans, input-too-long, no-question, faulty-text, unknown-source, late-departure, PrintsTable, PrintsRefusal, TableOrRefusal}
+use Rattle.arrivals_text.specs.Meaning.{TableMeans, PrintsTable, PrintsRefusal, TableOrRefusal}
+use Rattle.arrivals_text.specs.Meaning.{RefusalMeans, input-too-long, no-question, faulty-text, unknown-source, late-departure}
 use Rattle.arrivals_text.specs.Question.{QuestionAndText, asks}
 use Rattle.arrivals_text.proofs.Answers.{answer-too-long, answer-not-asked, answer-asked}
 use Rattle.arrivals_text.proofs.Questions.{asks-when-of-form}
@@ -62,7 +63,8 @@ module _ (input : List ℕ) (bytes : Bytes input) where
   meant-table : {labels predecessors : List ℕ} → TableMeans input labels predecessors → answerTo input ≡ accepted (record { labels = labels; predecessors = predecessors })
   meant-table {labels} {predecessors} m =
       let kept = m .described .kept .network-accepted in
-      let tables = only-tables-of-network (networkOf (m .town)) kept (m .source) (m .departure) (m .source-below) (m .departure-below) labels predecessors .0 (m .certified, m .lowest) in
+      let only = only-tables-of-network (networkOf (m .town)) kept (m .source) (m .departure) (m .source-below) (m .departure-below) labels predecessors in
+      let tables = only .0 (m .certified, m .lowest) in
       rw (tables .0, tables .1) (answer-table (m .short-enough) (m .question) (m .described) (m .source-below) (m .departure-below))
 
   meant-refusal : {number line : ℕ} → RefusalMeans input number line → answerTo input ≡ refusedAt number line
@@ -78,7 +80,8 @@ module _ (input : List ℕ) (bytes : Bytes input) where
 
   -- ---- From the answer to its meaning
 
-  described-means : length input ≤ 65536 → {source departure : ℕ} {text : List ℕ} → QuestionAndText input source departure text → {town : Town} → Describes text town → Means input (answerTo input)
+  described-means : length input ≤ 65536 → {source departure : ℕ} {text : List ℕ} → QuestionAndText input source departure text →
+      {town : Town} → Describes text town → Means input (answerTo input)
   described-means short {source} {departure} question {town} described = elim (ltb-cases source (town .junctions)) [
     | inl below ↦ elim (ltb-cases departure day) [
       | inl early ↦ rw (answer-table short question described (below .1) (early .1)) (table-means (below .1) (early .1))
@@ -144,7 +147,8 @@ prints-table input bytes labels predecessors = (
   (λ m. (rw (meant-table input bytes m), same-length m)),
 )
   where
-    go : (answer : Reading Labelling) → Means input answer → answerText tableOf answer ≡ tableText labels predecessors → length predecessors ≡ length labels → TableMeans input labels predecessors
+    go : (answer : Reading Labelling) → Means input answer → answerText tableOf answer ≡ tableText labels predecessors →
+        length predecessors ≡ length labels → TableMeans input labels predecessors
     go (refusedAt number line) m e long = absurd (table-no-refusal labels predecessors number line (sym e))
     go (accepted labelling) m e long =
         let same = same-arrivals (labelling .labels) (labelling .predecessors) labels predecessors (same-length m) long e in

@@ -14,7 +14,8 @@ use Rattle.arrivals_text.proofs.Lines.{length-line}
 
 -- ---- Tables
 
-same-line : (junction label predecessor label′ predecessor′ : ℕ) (rest rest′ : List ℕ) → junctionLine junction label predecessor ++ rest ≡ junctionLine junction label′ predecessor′ ++ rest′ →
+same-line : (junction label predecessor label′ predecessor′ : ℕ) (rest rest′ : List ℕ) →
+    junctionLine junction label predecessor ++ rest ≡ junctionLine junction label′ predecessor′ ++ rest′ →
     (label ≡ label′) × (predecessor ≡ predecessor′) × (rest ≡ rest′)
 unfolding junctionLine
 same-line junction label predecessor label′ predecessor′ rest rest′ e =

@@ -15,7 +15,7 @@ use Rattle.townfile.specs.Bytes.{digit}
 use Rattle.townfile.specs.Numbers.{decimalFrom, decimal}
 use Rattle.townfile.proofs.Between.{every-between}
 use Rattle.townfile.proofs.Lacks.{Lacks}
-use Rattle.formatting.specs.Digits.{digitsWithin, digitsOf, Decimal, DigitsAreDecimal, DigitsKeepForm}
+use Rattle.formatting.specs.Digits.{digitsWithin, digitsOf, DigitsAreDecimal, DigitsKeepForm}
 
 -- ---- A digit more
 
@@ -128,7 +128,8 @@ within-leads (suc k) n h e = elim (ltb-cases n 10) [
   | inl one ↦ (let first : 48 + n ≡ 48 = rw (one .0) at e in omega arith)
   | inr more ↦
       let below = tenth-below n (more .1) in
-      let first : getD (digitsWithin k (n / 10)) 0 0 ≡ 48 = sym (List·getD-append (digitsWithin k (n / 10)) ((48 + n % 10) ∷ []) 0 0 (some-within k (n / 10))) ∙ (rw (more .0) at e) in
+      let tenth = digitsWithin k (n / 10) in
+      let first : getD tenth 0 0 ≡ 48 = sym (List·getD-append tenth ((48 + n % 10) ∷ []) 0 0 (some-within k (n / 10))) ∙ (rw (more .0) at e) in
       omega (arith, within-leads k (n / 10) (omega arith) first, div-add-mod' n 10, mod-lt n {m = 10} (omega arith))
 ]
 

@@ -66,7 +66,8 @@ module _ (separator : ℕ) {part part′ rest rest′ : List ℕ} (lacks : Lacks
 
 -- ---- A number, and a number or a dash
 
-pub numbers-first : (separator n m : ℕ) {rest rest′ : List ℕ} → separator < 48 → digitsOf n ++ (separator ∷ rest) ≡ digitsOf m ++ (separator ∷ rest′) → (n ≡ m) × (rest ≡ rest′)
+pub numbers-first : (separator n m : ℕ) {rest rest′ : List ℕ} → separator < 48 →
+    digitsOf n ++ (separator ∷ rest) ≡ digitsOf m ++ (separator ∷ rest′) → (n ≡ m) × (rest ≡ rest′)
 numbers-first separator n m small e =
     let parts = same-parts separator (digits-lack separator n small) (digits-lack separator m small) e in
     (same-digits n m (parts .0), parts .1)
@@ -94,7 +95,8 @@ entry-lacks byte none n small = go (eqb n none)
     go true = cons-lacks 45 [] (λ e. omega arith) (λ i h e. omega arith)
     go false = digits-lack byte n (omega arith)
 
-pub entries-first : (separator none n m : ℕ) {rest rest′ : List ℕ} → separator < 45 → numberUnless none n ++ (separator ∷ rest) ≡ numberUnless none m ++ (separator ∷ rest′) → (n ≡ m) × (rest ≡ rest′)
+pub entries-first : (separator none n m : ℕ) {rest rest′ : List ℕ} → separator < 45 →
+    numberUnless none n ++ (separator ∷ rest) ≡ numberUnless none m ++ (separator ∷ rest′) → (n ≡ m) × (rest ≡ rest′)
 entries-first separator none n m small e =
     let parts = same-parts separator (entry-lacks separator none n small) (entry-lacks separator none m small) e in
     (same-entry none n m (parts .0), parts .1)

@@ -37,5 +37,6 @@ sets-written values table =
 
 -- ---- A number more
 
-pub number-copied : (text table : List ℕ) (at i : ℕ) {value next : ℕ} → FieldRead text at value next → sets (set table i value) (i + 1) (numbersFrom text next) ≡ sets table i (numbersFrom text at)
+pub number-copied : (text table : List ℕ) (at i : ℕ) {value next : ℕ} → FieldRead text at value next →
+    sets (set table i value) (i + 1) (numbersFrom text next) ≡ sets table i (numbersFrom text at)
 number-copied text table at i {value} {next} r = rw (number-goes text at value next r, add-one i)

@@ -80,7 +80,10 @@ module _ (mark : ℕ) (text : List ℕ) where
 
     form-is : ofForm mark text ≡ (ltb (2 + length (lineFrom text 2)) (length text) && onlyNumbers text 2)
     unfolding ofForm onlyNumbers
-    form-is = rw (ne-eqb mark 0 some, eq-eqb (markOf (firstLine text)) mark is, behind-is text line-has, line-is-longer text line-has, and-true (ltb (2 + length (lineFrom text 2)) (length text)))
+    form-is =
+        let marked = eq-eqb (markOf (firstLine text)) mark is in
+        let ended = ltb (2 + length (lineFrom text 2)) (length text) in
+        rw (ne-eqb mark 0 some, marked, behind-is text line-has, line-is-longer text line-has, and-true ended)
 
     pub answer-is : countedFrom 0 text 2 ≡ askedBy mark text
     unfolding askedBy countedFrom
@@ -104,7 +107,8 @@ module _ (mark : ℕ) (text : List ℕ) where
     unfolding countedFrom
     not-counted e = go (ltb (2 + length (lineFrom text 2)) (length text) && onlyNumbers text 2) form-is e
       where
-        go : (form : Bool) → ofForm mark text ≡ form → cond form (Numbers (0 + length (numbersFrom text 2)) (2 + length (lineFrom text 2) + 1)) Malformed ≡ Malformed → ofForm mark text ≡ false
+        go : (form : Bool) → ofForm mark text ≡ form →
+            cond form (Numbers (0 + length (numbersFrom text 2)) (2 + length (lineFrom text 2) + 1)) Malformed ≡ Malformed → ofForm mark text ≡ false
         go true form e = absurd (let z : _≡_ {A = ℕ} 0 1 = cc in omega arith)
         go false form e = form
 

@@ -22,7 +22,8 @@ module _ (figures : List ℕ) where
   lines-more j zero = let here : j + 0 ≡ j = omega arith in append-nil (lineOf figures j) ∙ rw here
   lines-more j (suc k) =
       let later : suc j + k ≡ j + suc k = omega arith in
-      ap (λ behind. lineOf figures j ++ behind) (lines-more (suc j) k ∙ rw later) ∙ sym (append-assoc (lineOf figures j) (sheetLines figures (suc j) k) (lineOf figures (j + suc k)))
+      ap (λ behind. lineOf figures j ++ behind) (lines-more (suc j) k ∙ rw later)
+      ∙ sym (append-assoc (lineOf figures j) (sheetLines figures (suc j) k) (lineOf figures (j + suc k)))
 
   -- the line as the code reads its figures
   pub line-put : (j : ℕ) {before between after : List ℕ} {at middle behind : ℕ} → PutIfRoom (sheetLines figures 0 j) at before between middle →
@@ -40,7 +41,8 @@ module _ (figures : List ℕ) where
   lines-of-part n j zero h = refl
   lines-of-part n j (suc k) h =
       let entry : (f : ℕ) → f < 4 → figureIn (take n figures) j f ≡ figureIn figures j f = λ f small. getD-take n figures (4 * j + f) 0 (omega arith) in
-      rw (entry 0 (omega arith), entry 1 (omega arith), entry 2 (omega arith), entry 3 (omega arith)) (ap (λ behind. lineOf figures j ++ behind) (lines-of-part n (suc j) k (omega arith)))
+      rw (entry 0 (omega arith), entry 1 (omega arith), entry 2 (omega arith), entry 3 (omega arith))
+      (ap (λ behind. lineOf figures j ++ behind) (lines-of-part n (suc j) k (omega arith)))
 
 -- ---- How long they are
 

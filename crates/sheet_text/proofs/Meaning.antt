@@ -204,7 +204,8 @@ prints-sheet input bytes junctions figures = (
   (λ m. (rw (meant-sheet input bytes m), four-each m)),
 )
   where
-    go : (answer : Reading SheetFigures) → Means input answer → answerText linesOf answer ≡ sheetLines figures 0 junctions → length figures ≡ 4 * junctions → PrintedSheetMeans input junctions figures
+    go : (answer : Reading SheetFigures) → Means input answer → answerText linesOf answer ≡ sheetLines figures 0 junctions →
+        length figures ≡ 4 * junctions → PrintedSheetMeans input junctions figures
     go (refusedAt number line) m e long = absurd (sheet-no-refusal figures junctions number line (sym e))
     go (accepted sheet) m e long =
         let same = same-sheet (sheet .figures) figures (sheet .junctions) junctions (four-each m) long e in

@@ -66,7 +66,8 @@ module _ (figures figures′ : List ℕ) where
           let inside : n / 4 < k = omega arith in
           subst (λ m. getD figures m 0 ≡ getD figures′ m 0) split (four-cases (n / 4) (n % 4) below (same (n / 4) inside))
 
-  pub same-sheet : (k k′ : ℕ) → length figures ≡ 4 * k → length figures′ ≡ 4 * k′ → sheetLines figures 0 k ≡ sheetLines figures′ 0 k′ → (k ≡ k′) × (figures ≡ figures′)
+  pub same-sheet : (k k′ : ℕ) → length figures ≡ 4 * k → length figures′ ≡ 4 * k′ →
+      sheetLines figures 0 k ≡ sheetLines figures′ 0 k′ → (k ≡ k′) × (figures ≡ figures′)
   same-sheet k k′ long long′ e =
       let same = same-lines 0 k k′ e in
       let four : (i : ℕ) → i < k → SameFour i = λ i h. (let here : 0 + i ≡ i = omega arith in subst SameFour here (same .1 i h)) in
@@ -75,7 +76,7 @@ module _ (figures figures′ : List ℕ) where
 -- ---- Sheets and refusals
 
 -- A sheet is empty or begins with a digit.
-pub first-byte : (figures : List ℕ) (k : ℕ) → getD (sheetLines figures 0 k) 0 0 ≡ 114 → ⊥
+first-byte : (figures : List ℕ) (k : ℕ) → getD (sheetLines figures 0 k) 0 0 ≡ 114 → ⊥
 unfolding sheetLines sheetLine
 first-byte figures zero e = omega arith
 first-byte figures (suc k) e = let first : _≡_ {A = ℕ} 48 114 = rw (digits-one 0 (omega arith)) at e in omega arith

@@ -131,7 +131,8 @@ fn loaded_sheet(
     requires { ⌜ LongEnough (counts junctions intervals arcs) (tablesIn fences tails heads lengths speeds) ⌝ }
     requires { ⌜ networkCheck (networkAt (counts junctions intervals arcs) (tablesIn fences tails heads lengths speeds)) ≡ replied tt ⌝ }
     requires { ⌜ length (now departures) ≤ 97 ⌝ }
-    ensures { λ r. ⌜ PrintedAnswer linesOf (networkSheet (networkAt (counts junctions intervals arcs) (lentTables fences tails heads lengths speeds)) source (now (departures .entry)))
+    ensures { λ r. ⌜ PrintedAnswer linesOf
+        (networkSheet (networkAt (counts junctions intervals arcs) (lentTables fences tails heads lengths speeds)) source (now (departures .entry)))
         (now (output .entry)) (now (output .exit)) r ⌝ }
 {
     let width = intervals as usize;

@@ -10,20 +10,28 @@ use Rattle.arrivals_text.proofs.question.question_in.Statement.{stateme
 use Rattle.arrivals_text.proofs.question.question_in.Tie as tie
 
 returns : tie.Need-returns
-returns c = let called = c .before .before .before in other-form _ (malformed-asked _ _ (sym (called .numbers-line .ensures .0) ∙ c .enum-told .given .1))
+returns c =
+    let called : tie.After-numbers-line = search in
+    other-form _ (malformed-asked _ _ (sym (called .numbers-line .ensures .0) ∙ c .enum-told .given .1))
 
-abbrev read : tie.After-known-told → tie.After-numbers-line
-read c = c .before .before .before .before
+-- ---- Where the line has its form
 
--- the line that was read
-line : (c : tie.After-known-told) → NumbersAsked markQU (now (read c .before .before .before .args .input)) (c .before .count .given .0 .0) (c .before .count .given .0 .1 .0)
-line c = numbers-asked _ _ (sym (read c .numbers-line .ensures .0) ∙ c .before .count .given .1)
+abbrev begun : tie.After-count → tie.Start
+begun c = search
+
+abbrev read : tie.After-count → tie.After-numbers-line
+read c = search
+
+line : (c : tie.After-count) → let fields = c .count .given .0 in NumbersAsked markQU (now (begun c .args .input)) (fields .0) (fields .1 .0)
+line c = numbers-asked _ _ (sym (read c .numbers-line .ensures .0) ∙ c .count .given .1)
 
 returns-2 : tie.Need-returns-2
-returns-2 c = other-count _ (line (c .before)) (c .if1 .taken)
+returns-2 c = other-count _ (line (c .before .before)) (c .if1 .taken)
 
 returns-3 : tie.Need-returns-3
-returns-3 c = let told = c .before in asked _ (line told) (c .if1 .left) (read told .numbers-line .ensures .1 ∙ line told .table (replicate 2 0))
+returns-3 c =
+    let found = c .before .before in
+    asked _ (line found) (c .if1 .left) (read found .numbers-line .ensures .1 ∙ line found .table (replicate 2 0))
 
 pub question-in-spec : {M : Type 1} → statement M
 question-in-spec =

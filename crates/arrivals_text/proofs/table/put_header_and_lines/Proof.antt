@@ -8,8 +8,8 @@ use Rattle.arrivals_text.proofs.table.put_header_and_lines.Tie as tie
 returns : tie.Need-returns
 unfolding tableText
 returns c =
-    let lines = c .before .before in
-    let header = lines .before .before .before .before in
+    let lines : tie.After-put-lines = search in
+    let header : tie.After-put-text = search in
     room-then (header .put-text .ensures) (lines .put-lines .ensures)
 
 pub put-header-and-lines-spec : {M : Type 1} → statement M

@@ -8,12 +8,12 @@ use Rattle.arrivals_text.proofs.table.put_line.Tie as tie
 returns : tie.Need-returns
 unfolding junctionLine
 returns c =
-    let ended = c .before .before in
-    let predecessor = ended .before .before .before .before in
-    let gap = predecessor .before .before .before .before in
-    let label = gap .before .before .before .before in
-    let first-gap = label .before .before .before .before in
-    let junction = first-gap .before .before .before .before in
+    let ended : tie.After-put-byte3 = search in
+    let predecessor : tie.After-put-number-unless2 = search in
+    let gap : tie.After-put-byte2 = search in
+    let label : tie.After-put-number-unless = search in
+    let first-gap : tie.After-put-byte = search in
+    let junction : tie.After-put-number = search in
     room-then (junction .put-number .ensures)
     (room-then (first-gap .put-byte .ensures)
     (room-then (label .put-number-unless .ensures)

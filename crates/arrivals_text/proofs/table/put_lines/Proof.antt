@@ -11,7 +11,8 @@ use Rattle.arrivals_text.proofs.table.put_lines.Statement.{statement}
 use Rattle.arrivals_text.proofs.table.put_lines.Tie as tie
 
 abbrev Inv-loop : tie.InvT-loop
-Inv-loop output₀ at labels predecessors end₀ junction₀ output end junction = (length output ≡ length output₀) × LinesPut labels predecessors junction at output₀ output end
+Inv-loop output₀ at labels predecessors end₀ junction₀ output end junction =
+    (length output ≡ length output₀) × LinesPut labels predecessors junction at output₀ output end
 
 abbrev μ-loop : tie.MeasureT-loop
 μ-loop output₀ at labels predecessors end₀ junction₀ output end junction = length labels - junction
@@ -43,16 +44,19 @@ loop-less c = omega arith
 
 loop-again : tie.Need-loop-again Inv-loop μ-loop
 loop-again c =
-    let called = c .before .before in
-    let inside = called .before .before .before .before in
-    let start = inside .before .before .before .before .before in
-    (called .put-line .kept .0 ∙ inside .before .loop .inv .0, line-put _ _ (start .pre .0) (inside .loop-test .taken) (inside .before .loop .inv .1) (called .put-line .ensures))
+    let called : tie.After-put-line Inv-loop μ-loop = search in
+    let inside : tie.In-loop Inv-loop μ-loop = search in
+    let start : tie.Start Inv-loop μ-loop = search in
+    let (same-length, puts) = inside .before .loop .inv in
+    (called .put-line .kept .0 ∙ same-length, line-put _ _ (start .pre .0) (inside .loop-test .taken) puts (called .put-line .ensures))
 
 same-length : tie.Need-same-length Inv-loop μ-loop
 same-length c = c .before .loop .inv .0
 
 returns : tie.Need-returns Inv-loop μ-loop
-returns c = lines-put _ _ (c .before .before .before .before .before .pre .0) (c .loop-test .left) (c .before .loop .inv .1)
+returns c =
+    let start : tie.Start Inv-loop μ-loop = search in
+    lines-put _ _ (start .pre .0) (c .loop-test .left) (c .before .loop .inv .1)
 
 pub put-lines-spec : {M : Type 1} → statement M
 put-lines-spec =

@@ -9,8 +9,9 @@ use Rattle.arrivals_text.proofs.table.put_table.Tie as tie
 
 returns : tie.Need-returns
 returns c =
-    let known = c .before .before .before in
-    let short = table-fits (known .before .pre) (λ j h. omega (arith, known .shared-slice-known .given j)) in
+    let start : tie.Start = search in
+    let known : tie.After-shared-slice-known = search in
+    let short = table-fits (start .pre) (λ j h. omega (arith, known .shared-slice-known .given j)) in
     put-printed false (c .put-header-and-lines .ensures) (omega (arith, short, c .before .put-header-and-lines-arg .given))
 
 pub put-table-spec : {M : Type 1} → statement M

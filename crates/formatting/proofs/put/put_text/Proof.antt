@@ -32,9 +32,10 @@ loop-less c = omega arith
 
 loop-again : tie.Need-loop-again Inv-loop μ-loop
 loop-again c =
-    let called = c .before .before in
-    let turn = called .before .before .before .before in
-    (omega arith, called .put-byte .kept .0 ∙ turn .loop .inv .1, byte-more _ (called .before .before .before .loop-test .taken) (turn .loop .inv .2) (called .put-byte .ensures))
+    let called : tie.After-put-byte Inv-loop μ-loop = search in
+    let inside : tie.In-loop Inv-loop μ-loop = search in
+    let (within, same-length, puts) = inside .before .loop .inv in
+    (omega arith, called .put-byte .kept .0 ∙ same-length, byte-more _ (inside .loop-test .taken) puts (called .put-byte .ensures))
 
 same-length : tie.Need-same-length Inv-loop μ-loop
 same-length c = c .before .loop .inv .1

@@ -1,9 +1,9 @@
 -- `line::copy_numbers`: the numbers left, put behind those that are copied, are all of them.
 use borrow.Author.Needs.{needs}
-use Prim.Native.Nat.{_-_}
+use Prim.Native.Nat.{ℕ, _-_}
 use mathlib.Core.Bool.{true}
+use mathlib.Core.List.{List}
 use mathlib.Core.Path.{_≡_, refl, sym, ap, _∙_}
-use native.Mathlib.Omega.{arith}
 use lib.ListN.{length, take, length-set}
 use lib.Seq.{sets}
 use denote.Ref.{now}
@@ -26,50 +26,46 @@ abbrev μ-loop : tie.MeasureT-loop
 loop-holds : tie.Need-loop-holds Inv-loop μ-loop
 loop-holds c = (c .before .before .pre, refl, refl)
 
+abbrev begun : tie.At-loop Inv-loop μ-loop → tie.Start Inv-loop μ-loop
+begun c = search
+
+-- the numbers from a place on
+abbrev from : (turn : tie.At-loop Inv-loop μ-loop) → ℕ → List ℕ
+from turn at = numbersFrom (now (begun turn .args .text)) at
+
 -- all of them, put from the table's start on
 all-written : (turn : tie.At-loop Inv-loop μ-loop) →
-    let start = turn .before .before .before in
-    sets (turn .loop .numbers) (turn .loop .i) (numbersFrom (now (start .args .text)) (turn .loop .at))
-    ≡ written (take (length (now (start .args .numbers))) (numbersFrom (now (start .args .text)) (start .args .start))) (now (start .args .numbers))
-all-written turn = let start = turn .before .before .before in turn .loop .inv .2 ∙ sets-written (numbersFrom (now (start .args .text)) (start .args .start)) (now (start .args .numbers))
+    let start = begun turn .args in
+    sets (turn .loop .numbers) (turn .loop .i) (from turn (turn .loop .at))
+    ≡ written (take (length (now (start .numbers))) (from turn (start .start))) (now (start .numbers))
+all-written turn = let start = begun turn .args in turn .loop .inv .2 ∙ sets-written (from turn (start .start)) (now (start .numbers))
 
 same-length : tie.Need-same-length Inv-loop μ-loop
-same-length c = c .before .before .before .before .loop .inv .1
+same-length c = let turn : tie.At-loop Inv-loop μ-loop = search in turn .loop .inv .1
 
 returns : tie.Need-returns Inv-loop μ-loop
 returns c =
-    let read = c .before .before in
-    let turn = read .before .before in
+    let read : tie.After-read-field Inv-loop μ-loop = search in
+    let turn : tie.At-loop Inv-loop μ-loop = search in
     let none = only-none-left _ _ (turn .loop .inv .0) (sym (read .read-field .ensures) ∙ c .enum-told .given .1) in
     sym (ap (sets (turn .loop .numbers) (turn .loop .i)) none) ∙ all-written turn
 
-abbrev reached : tie.After-known-told Inv-loop μ-loop → tie.At-loop Inv-loop μ-loop
-reached c = c .before .before .before .before .before
+-- ---- Where there is a field
 
--- the field that was read
-found : (c : tie.After-known-told Inv-loop μ-loop) →
-    FieldRead (now (reached c .before .before .before .args .text)) (reached c .loop .at) (c .before .value .given .0 .0) (c .before .value .given .0 .1 .0)
-found c = let read = c .before .before .before in field-read _ _ (sym (read .read-field .ensures) ∙ c .before .value .given .1)
+abbrev turn : tie.After-value Inv-loop μ-loop → tie.At-loop Inv-loop μ-loop
+turn c = search
 
-mul-numbers : tie.Need-mul-numbers Inv-loop μ-loop
-mul-numbers c = search needs
-
-slice-write-numbers : tie.Need-slice-write-numbers Inv-loop μ-loop
-slice-write-numbers c = omega arith
-
-add-i : tie.Need-add-i Inv-loop μ-loop
-add-i c = omega arith
-
-loop-less : tie.Need-loop-less Inv-loop μ-loop
-loop-less c = omega arith
+found : (c : tie.After-value Inv-loop μ-loop) →
+    let fields = c .value .given .0 in FieldRead (now (begun (turn c) .args .text)) (turn c .loop .at) (fields .0) (fields .1 .0)
+found c =
+    let read : tie.After-read-field Inv-loop μ-loop = search in
+    field-read _ _ (sym (read .read-field .ensures) ∙ c .value .given .1)
 
 loop-again : tie.Need-loop-again Inv-loop μ-loop
 loop-again c =
-    let turn = reached c in (
-      sym (only-goes-on _ _ (found c)) ∙ turn .loop .inv .0,
-      length-set (turn .loop .numbers) _ _ ∙ turn .loop .inv .1,
-      number-copied _ _ _ _ (found c) ∙ turn .loop .inv .2,
-    )
+    let field = found (c .before) in
+    let (only, same-length, copied) = turn (c .before) .loop .inv in
+    (sym (only-goes-on _ _ field) ∙ only, length-set (turn (c .before) .loop .numbers) _ _ ∙ same-length, number-copied _ _ _ _ field ∙ copied)
 
 same-length-2 : tie.Need-same-length-2 Inv-loop μ-loop
 same-length-2 c = c .before .loop .inv .1
@@ -77,8 +73,7 @@ same-length-2 c = c .before .loop .inv .1
 returns-2 : tie.Need-returns-2 Inv-loop μ-loop
 returns-2 c =
     let turn = c .before in
-    let left = numbersFrom (now (turn .before .before .before .args .text)) (turn .loop .at) in
-    sym (sets-outside left (turn .loop .numbers) (turn .loop .i) (c .loop-test .left)) ∙ all-written turn
+    sym (sets-outside (from turn (turn .loop .at)) (turn .loop .numbers) (turn .loop .i) (c .loop-test .left)) ∙ all-written turn
 
 pub copy-numbers-spec : {M : Type 1} → statement M
 copy-numbers-spec =
@@ -92,10 +87,10 @@ copy-numbers-spec =
     (λ c. search needs)
     same-length
     returns
-    mul-numbers
-    slice-write-numbers
-    add-i
-    loop-less
+    (λ c. search needs)
+    (λ c. search needs)
+    (λ c. search needs)
+    (λ c. search needs)
     loop-again
     same-length-2
     returns-2)

@@ -28,30 +28,41 @@ add-t10 c = omega arith
 
 returns : tie.Need-returns Inv-loop μ-loop
 returns c =
-    let inside = c .before .before in
+    let inside : tie.In-loop Inv-loop μ-loop = search in
     line-feed-found _ _ (inside .loop-test .taken) (c .if1 .taken) _ ∙ inside .before .loop .inv .1
 
 returns-2 : tie.Need-returns-2 Inv-loop μ-loop
 returns-2 c =
-    let read = c .before .before in
-    let inside = read .before .before .before in
-    no-field _ _ (inside .loop-test .taken) (read .before .if1 .left) (sym (read .read-field .ensures) ∙ c .enum-told .given .1) _ ∙ inside .before .loop .inv .1
+    let read : tie.After-read-field Inv-loop μ-loop = search in
+    let other : tie.Else1 Inv-loop μ-loop = search in
+    let inside : tie.In-loop Inv-loop μ-loop = search in
+    let none = sym (read .read-field .ensures) ∙ c .enum-told .given .1 in
+    no-field _ _ (inside .loop-test .taken) (other .if1 .left) none _ ∙ inside .before .loop .inv .1
 
-abbrev turn : tie.After-known-told Inv-loop μ-loop → tie.At-loop Inv-loop μ-loop
-turn c = c .before .before .before .before .before .before .before
+-- ---- Where there is a field
 
--- the field that was read
-found : (c : tie.After-known-told Inv-loop μ-loop) → FieldRead (now (turn c .before .before .args .text)) (turn c .loop .at) (c .before .next .given .0 .0) (c .before .next .given .0 .1 .0)
-found c = let read = c .before .before .before in field-read _ _ (sym (read .read-field .ensures) ∙ c .before .next .given .1)
+abbrev begun : tie.After-next Inv-loop μ-loop → tie.Start Inv-loop μ-loop
+begun c = search
+
+abbrev turn : tie.After-next Inv-loop μ-loop → tie.At-loop Inv-loop μ-loop
+turn c = search
+
+found : (c : tie.After-next Inv-loop μ-loop) →
+    let fields = c .next .given .0 in FieldRead (now (begun c .args .text)) (turn c .loop .at) (fields .0) (fields .1 .0)
+found c =
+    let read : tie.After-read-field Inv-loop μ-loop = search in
+    field-read _ _ (sym (read .read-field .ensures) ∙ c .next .given .1)
 
 add-count : tie.Need-add-count Inv-loop μ-loop
 add-count c = omega arith
 
 loop-less : tie.Need-loop-less Inv-loop μ-loop
-loop-less c = omega (arith, field-behind _ _ (found c))
+loop-less c = omega (arith, field-behind _ _ (found (c .before)))
 
 loop-again : tie.Need-loop-again Inv-loop μ-loop
-loop-again c = (omega (arith, field-behind _ _ (found c)), count-goes-on _ _ (found c) _ ∙ turn c .loop .inv .1)
+loop-again c =
+    let field = found (c .before) in
+    (omega (arith, field-behind _ _ field), count-goes-on _ _ field _ ∙ turn (c .before) .loop .inv .1)
 
 returns-3 : tie.Need-returns-3 Inv-loop μ-loop
 returns-3 c = text-ended _ _ (c .loop-test .left) _ ∙ c .before .loop .inv .1

@@ -18,39 +18,46 @@ returns-2 : tie.Need-returns-2
 unfolding lineFrom
 returns-2 c = refused _ _ (other-mark _ _ (λ e. c .if2 .taken (c .before .mark-at .ensures ∙ e))) _
 
--- the line's mark is the one asked for
+-- ---- Where the line's mark is the one asked for
+
 abbrev begun : tie.Else2 → tie.Start
-begun c = c .before .before .before .before .before
+begun c = search
 
 is : (c : tie.Else2) → markOf (firstLine (now (begun c .args .text))) ≡ begun c .args .mark
 unfolding lineFrom
 is c = sym (c .before .mark-at .ensures) ∙ c .if2 .left
 
 some : (c : tie.Else2) → begun c .args .mark ≡ 0 → ⊥
-some c = c .before .before .if1 .left
+some c = let asked : tie.Else1 = search in asked .if1 .left
 
 returns-3 : tie.Need-returns-3
 returns-3 c =
-    let counted = c .before .before in
-    refused _ _ (not-counted _ _ (is (counted .before)) (some (counted .before)) (sym (counted .count-numbers .ensures) ∙ c .enum-told .given .1)) _
+    let counted : tie.After-count-numbers = search in
+    let marked : tie.Else2 = search in
+    refused _ _ (not-counted _ _ (is marked) (some marked) (sym (counted .count-numbers .ensures) ∙ c .enum-told .given .1)) _
 
--- the numbers that were counted
-found : (c : tie.After-known-told) → countedFrom 0 (now (begun (c .before .before .before .before) .args .text)) 2 ≡ Numbers (c .before .count .given .0 .0) (c .before .count .given .0 .1 .0)
-found c = sym (c .before .before .before .count-numbers .ensures) ∙ c .before .count .given .1
+-- ---- Where the numbers are counted
+
+abbrev marked : tie.After-count → tie.Else2
+marked c = search
+
+found : (c : tie.After-count) →
+    let fields = c .count .given .0 in countedFrom 0 (now (begun (marked c) .args .text)) 2 ≡ Numbers (fields .0) (fields .1 .0)
+found c = let counted : tie.After-count-numbers = search in sym (counted .count-numbers .ensures) ∙ c .count .given .1
 
 copy-numbers-requires : tie.Need-copy-numbers-requires
 copy-numbers-requires c κs =
-    let told = c .before in
-    let marked = told .before .before .before .before in
-    counted-only _ _ (is marked) (some marked) (found told) .1
+    let counted : tie.After-count = search in
+    counted-only _ _ (is (marked counted)) (some (marked counted)) (found counted) .1
 
 returns-4 : tie.Need-returns-4
 returns-4 c =
-    let copied = c .before .before in
-    let told = copied .before .before in
-    let marked = told .before .before .before .before in
-    let form = counted-only _ _ (is marked) (some marked) (found told) .0 in
-    (sym (found told) ∙ answer-is _ _ (is marked) (some marked), copied .copy-numbers .ensures ∙ table-is _ _ (is marked) (some marked) form _)
+    let copied : tie.After-copy-numbers = search in
+    let counted : tie.After-count = search in
+    let asked = is (marked counted) in
+    let a-mark = some (marked counted) in
+    let form = counted-only _ _ asked a-mark (found counted) .0 in
+    (sym (found counted) ∙ answer-is _ _ asked a-mark, copied .copy-numbers .ensures ∙ table-is _ _ asked a-mark form _)
 
 pub numbers-line-spec : {M : Type 1} → statement M
 numbers-line-spec =

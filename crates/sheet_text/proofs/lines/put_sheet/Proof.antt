@@ -9,8 +9,9 @@ use Rattle.sheet_text.proofs.lines.put_sheet.Tie as tie
 
 returns : tie.Need-returns
 returns c =
-    let known = c .before .before in
-    let short = lines-fit _ (λ i h. omega (arith, known .shared-slice-known .given i)) (known .before .pre) in
+    let start : tie.Start = search in
+    let known : tie.After-shared-slice-known = search in
+    let short = lines-fit _ (λ i h. omega (arith, known .shared-slice-known .given i)) (start .pre) in
     put-printed false (c .put-lines .ensures) (omega (arith, short, c .before .put-lines-arg .given))
 
 pub put-sheet-spec : {M : Type 1} → statement M

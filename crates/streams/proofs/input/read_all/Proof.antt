@@ -16,8 +16,20 @@ abbrev μ-loop : tie.MeasureT-loop
 μ-loop descriptor name buffer₀ read₀ buffer read = length buffer - read
 
 -- What a read moved fits into the rest of the buffer.
-rest : (c : tie.After-count Inv-loop μ-loop) → c .count .given .0 .0 ≤ length (c .before .before .before .before .read-part .last .1 .0)
-rest c = (counted _ (c .count .given .1) (c .before .before .before .before .read-part .ensures)) .0
+abbrev read : tie.After-count Inv-loop μ-loop → tie.After-read-part Inv-loop μ-loop
+read c = search
+
+rest : (c : tie.After-count Inv-loop μ-loop) → c .count .given .0 .0 ≤ length (read c .read-part .last .1 .0)
+rest c = counted _ (c .count .given .1) (read c .read-part .ensures) .0
+
+sum-fits : tie.Need-add-length Inv-loop μ-loop
+sum-fits c = let moved : tie.After-count Inv-loop μ-loop = search in omega (arith, rest moved)
+
+loop-less : tie.Need-loop-less Inv-loop μ-loop
+loop-less c = let moved : tie.After-count Inv-loop μ-loop = search in omega (arith, rest moved)
+
+loop-again : tie.Need-loop-again Inv-loop μ-loop
+loop-again c = let moved : tie.After-count Inv-loop μ-loop = search in (omega arith, omega (arith, rest moved))
 
 pub read-all-spec : {M : Type 1} → statement M
 read-all-spec =
@@ -37,8 +49,8 @@ read-all-spec =
     (λ c. search needs)
     (λ c. search needs)
     (λ c. counts _ _ (omega arith))
-    (λ c. omega (arith, rest (c .before .before)))
-    (λ c. omega (arith, rest (c .before .before)))
-    (λ c. (omega arith, omega (arith, rest (c .before .before))))
+    sum-fits
+    loop-less
+    loop-again
     (λ c. search needs)
     (λ c. counts _ _ (omega arith)))

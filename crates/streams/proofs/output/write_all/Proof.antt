@@ -14,9 +14,25 @@ abbrev μ-loop : tie.MeasureT-loop
 μ-loop descriptor name text written₀ written = length text - written
 
 -- What a write took is at most the rest of the text.
-rest : (c : tie.After-count Inv-loop μ-loop) →
-    c .count .given .0 .0 ≤ length (c .before .before .before .before .before .before .before .before .args .text .now) - c .before .before .before .before .before .loop .length
-rest c = omega (arith, simp (length-take, length-drop) at ((counted _ (c .count .given .1) (c .before .before .write-part .ensures)) .0))
+abbrev begun : tie.After-count Inv-loop μ-loop → tie.Start Inv-loop μ-loop
+begun c = search
+
+abbrev turn : tie.After-count Inv-loop μ-loop → tie.At-loop Inv-loop μ-loop
+turn c = search
+
+rest : (c : tie.After-count Inv-loop μ-loop) → c .count .given .0 .0 ≤ length (begun c .args .text .now) - turn c .loop .length
+rest c =
+    let wrote : tie.After-write-part Inv-loop μ-loop = search in
+    omega (arith, simp (length-take, length-drop) at (counted _ (c .count .given .1) (wrote .write-part .ensures) .0))
+
+sum-fits : tie.Need-add-length Inv-loop μ-loop
+sum-fits c = let moved : tie.After-count Inv-loop μ-loop = search in omega (arith, rest moved)
+
+loop-less : tie.Need-loop-less Inv-loop μ-loop
+loop-less c = let moved : tie.After-count Inv-loop μ-loop = search in omega (arith, rest moved)
+
+loop-again : tie.Need-loop-again Inv-loop μ-loop
+loop-again c = let moved : tie.After-count Inv-loop μ-loop = search in omega (arith, rest moved)
 
 pub write-all-spec : {M : Type 1} → statement M
 write-all-spec =
@@ -35,7 +51,7 @@ write-all-spec =
     (λ c. search needs)
     (λ c κs. search needs)
     (λ c. search needs)
-    (λ c. omega (arith, rest (c .before .before)))
-    (λ c. omega (arith, rest (c .before .before)))
-    (λ c. omega (arith, rest (c .before .before)))
+    sum-fits
+    loop-less
+    loop-again
     (λ c. search needs))

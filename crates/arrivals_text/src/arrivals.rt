@@ -4,7 +4,7 @@ ghost use lib.ListN.{length};
 ghost use Rattle.model.specs.Rules.{written};
 ghost use Rattle.town_labels.specs.Labelling.{townLabelling};
 ghost use Rattle.formatting.specs.Texts.{isRefusal};
-ghost use Rattle.formatting.specs.code.Printed.{PrintedAnswer};
+ghost use Rattle.formatting.specs.Printed.{PrintedAnswer};
 ghost use Rattle.arrivals_text.specs.Answer.{answerTo, tableOf, arrivalsText};
 use crate::question::Question;
 use crate::question::question_in;

@@ -4,7 +4,7 @@ ghost use mathlib.Core.Bool.{false};
 ghost use Prim.Native.Nat.{_≤_};
 ghost use lib.ListN.{length};
 ghost use Rattle.formatting.specs.Putting.{PutIfRoom};
-ghost use Rattle.formatting.specs.code.Printed.{Printed};
+ghost use Rattle.formatting.specs.Printed.{Printed};
 ghost use Rattle.arrivals_text.specs.Answer.{junctionLine, junctionLines, tableText};
 ghost use Rattle.arrivals_text.specs.code.Tables.{TableFits};
 use formatting::put::put_byte;

@@ -12,7 +12,7 @@ use Rattle.model.specs.Rules.{written}
 use Rattle.townfile.specs.FirstFault.{Reading}
 use Rattle.formatting.specs.Putting.{Put, PutIfRoom}
 use Rattle.formatting.specs.Texts.{answerText, isRefusal}
-use Rattle.formatting.specs.code.Printed.{Printed, PrintedAnswer}
+use Rattle.formatting.specs.Printed.{Printed, PrintedAnswer}
 use Rattle.formatting.specs.declared.text.Text.{Text}
 
 sets-append : (bytes more table : List ℕ) (at : ℕ) → sets (sets table at bytes) (at + length bytes) more ≡ sets table at (bytes ++ more)

@@ -1,4 +1,4 @@
 pub mod Digits
+pub mod Printed
 pub mod Putting
 pub mod Texts
-pub mod code

@@ -2,7 +2,7 @@
 ghost use mathlib.Core.Bool.{true};
 ghost use Rattle.refusals.specs.Refusals.{numberOf};
 ghost use Rattle.formatting.specs.Texts.{refusalText};
-ghost use Rattle.formatting.specs.code.Printed.{Printed};
+ghost use Rattle.formatting.specs.Printed.{Printed};
 use crate::put::put_refusal;
 use refusals::refusal::Refusal;
 

@@ -3,7 +3,7 @@ ghost use mathlib.Core.Bool.{false};
 ghost use Prim.Native.Nat.{_*_, _≤_};
 ghost use lib.ListN.{length};
 ghost use Rattle.formatting.specs.Putting.{PutIfRoom};
-ghost use Rattle.formatting.specs.code.Printed.{Printed};
+ghost use Rattle.formatting.specs.Printed.{Printed};
 ghost use Rattle.sheet_text.specs.Answer.{spaced, sheetLine, sheetLines};
 ghost use Rattle.sheet_text.specs.code.Parts.{LinesFit};
 use formatting::put::put_byte;

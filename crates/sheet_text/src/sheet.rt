@@ -10,7 +10,7 @@ ghost use Rattle.townfile.specs.Load.{counts, LongEnough, networkAt};
 ghost use Rattle.townfile.specs.Lent.{lentTables, tablesIn};
 ghost use Rattle.sheeting.specs.Sheet.{outcomeOf, sheetAnswer, sheetFiguresAfter};
 ghost use Rattle.formatting.specs.Texts.{isRefusal};
-ghost use Rattle.formatting.specs.code.Printed.{PrintedAnswer};
+ghost use Rattle.formatting.specs.Printed.{PrintedAnswer};
 ghost use Rattle.sheet_text.specs.Answer.{networkSheet, townSheet, sheetFor, linesOf, sheetText};
 ghost use Rattle.sheet_text.specs.code.Parts.{PartsFit};
 use crate::lines::put_sheet;

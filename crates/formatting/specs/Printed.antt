@@ -1,15 +1,15 @@
--- What a program's parts say of the whole output.
+-- What is said of a whole output: its text, and whether that is a refusal.
+use Prim.Native.Nat.{ℕ}
 use mathlib.Core.Path.{_≡_}
 use mathlib.Core.Bool.{Bool}
 use mathlib.Core.List.{List}
-use Prim.Native.Nat.{ℕ}
 use lib.ListN.{length}
 use Rattle.model.specs.Rules.{written}
 use Rattle.townfile.specs.FirstFault.{Reading}
 use Rattle.formatting.specs.Texts.{answerText, isRefusal}
 use Rattle.formatting.specs.declared.text.Text.{Text}
 
--- The output begins with a text, which is a refusal or is none; so it is said.
+-- The output begins with a text. Its length is said, and whether it is a refusal.
 pub record Printed (text : List ℕ) (refusal : Bool) (before after : List ℕ) (said : Text) : Type 0 where
   pub counted : said .length ≡ length text
   pub told : said .refused ≡ refusal

@@ -7,9 +7,11 @@ kit:
 
 # Proves and builds the programs, and asks them about the example towns. rt check uses all processors; building alone would use one.
 run:
-	rt check arrivals sheet
+	rt check arrivals sheet to_new to_old
 	programs/build arrivals
 	programs/build sheet
+	programs/build to_new
+	programs/build to_old
 	examples/run
 
 # The gate: prove everything from nothing, try the must-fail edits, run the programs and the tests.
@@ -29,5 +31,5 @@ bench:
 SEED = 1
 MINUTES = 5
 soak:
-	tests/build exports cabinet arrivals sheet
+	tests/build exports cabinet arrivals sheet to_new to_old
 	cargo run --release --offline --quiet --manifest-path compare/Cargo.toml --bin soak -- $(SEED) $(MINUTES)

@@ -112,8 +112,24 @@ mod exports {
             head_count: usize,
             lengths: *mut u32,
             length_count: usize,
+            holds: *mut u16,
+            hold_count: usize,
             speeds: *mut u8,
             speed_count: usize,
+        ) -> u64;
+
+        pub fn exports_to_new(
+            text: *const u8,
+            text_length: usize,
+            output: *mut u8,
+            output_length: usize,
+        ) -> u64;
+
+        pub fn exports_to_old(
+            text: *const u8,
+            text_length: usize,
+            output: *mut u8,
+            output_length: usize,
         ) -> u64;
 
         pub fn exports_name(text: *const u8, text_length: usize, junction: u32) -> u64;
@@ -150,8 +166,8 @@ macro_rules! on_network {
     };
 }
 
-/// Set in Load's answer when it is a refusal.
-const LOAD_REFUSED: u64 = 1 << 63;
+/// Set in an answer of Load or of a converter when it is a refusal.
+const TEXT_REFUSED: u64 = 1 << 63;
 
 /// The upper halves of Arc arrival's answers that are not an interval.
 const ARC_REFUSED: u32 = 1 << 31;
@@ -265,6 +281,7 @@ pub fn load(
     tails: &mut [u16],
     heads: &mut [u16],
     lengths: &mut [u32],
+    holds: &mut [u16],
     speeds: &mut [u8],
 ) -> Result<Counts, LoadRefusal> {
     // SAFETY: each pointer and length belong to one slice lent for the call,
@@ -281,22 +298,36 @@ pub fn load(
             heads.len(),
             lengths.as_mut_ptr(),
             lengths.len(),
+            holds.as_mut_ptr(),
+            holds.len(),
             speeds.as_mut_ptr(),
             speeds.len(),
         )
     };
-    let (high, low) = halves(answer & !LOAD_REFUSED);
-    if answer & LOAD_REFUSED != 0 {
-        return Err(LoadRefusal {
-            refusal: Refusal(high),
-            line: low,
-        });
-    }
+    let (arcs, low) = halves(decoded_text_answer(answer)?);
     Ok(Counts {
         junctions: low & 0xffff,
         intervals: low >> 16,
-        arcs: high,
+        arcs,
     })
+}
+
+pub fn to_new(text: &[u8], output: &mut [u8]) -> Result<usize, LoadRefusal> {
+    // SAFETY: each pointer and length belong to one slice lent for the call,
+    // the output for writing and to nobody else.
+    let answer = unsafe {
+        exports::exports_to_new(text.as_ptr(), text.len(), output.as_mut_ptr(), output.len())
+    };
+    decoded_text_answer(answer).map(|length| length as usize)
+}
+
+pub fn to_old(text: &[u8], output: &mut [u8]) -> Result<usize, LoadRefusal> {
+    // SAFETY: each pointer and length belong to one slice lent for the call,
+    // the output for writing and to nobody else.
+    let answer = unsafe {
+        exports::exports_to_old(text.as_ptr(), text.len(), output.as_mut_ptr(), output.len())
+    };
+    decoded_text_answer(answer).map(|length| length as usize)
 }
 
 pub fn name(text: &[u8], junction: u32) -> &[u8] {
@@ -329,6 +360,18 @@ fn decoded(answer: u32) -> Result<u32, Refusal> {
     }
 }
 
+/// Reads an answer that is a value or a refusal's number and line.
+fn decoded_text_answer(answer: u64) -> Result<u64, LoadRefusal> {
+    if answer & TEXT_REFUSED == 0 {
+        return Ok(answer);
+    }
+    let (number, line) = halves(answer & !TEXT_REFUSED);
+    Err(LoadRefusal {
+        refusal: Refusal(number),
+        line,
+    })
+}
+
 /// Reads an answer of Arc arrival. One that is none of the three forms gives an
 /// interval that no plan has, so that a comparison sees it.
 fn decoded_arrival(answer: u64) -> Result<Option<Arrival>, Refusal> {
@@ -357,5 +400,18 @@ mod tests {
         // None of the three forms.
         assert_eq!(decoded_arrival((1 << 62) + 7), arrival(7, 1 << 30));
         assert_eq!(decoded_arrival((3 << 62) + 7), arrival(7, 3 << 30));
+    }
+
+    #[test]
+    fn reads_answers_about_texts() {
+        assert_eq!(decoded_text_answer(65_536), Ok(65_536));
+        let refused = LoadRefusal {
+            refusal: Refusal(27),
+            line: 3,
+        };
+        let answer = (1 << 63) + (27 << 32) + 3;
+        assert_eq!(decoded_text_answer(answer), Err(refused));
+        // No length; a comparison sees it.
+        assert_eq!(decoded_text_answer(1 << 62), Ok(1 << 62));
     }
 }

@@ -27,7 +27,7 @@ pub struct Check {
     pub refuses: &'static [RangeInclusive<u32>],
 }
 
-pub const CHECKS: [&Check; 26] = [
+pub const CHECKS: [&Check; 35] = [
     &cases::NETWORK_CHECK,
     &cases::ARC_ARRIVAL,
     &cases::LABELS,
@@ -38,6 +38,10 @@ pub const CHECKS: [&Check; 26] = [
     &cases::HOST_QUESTION,
     &cases::ARRIVALS,
     &cases::SHEET_PROGRAM,
+    &cases::TO_NEW,
+    &cases::TO_OLD,
+    &cases::TO_NEW_PROGRAM,
+    &cases::TO_OLD_PROGRAM,
     &properties::NON_PASSING,
     &properties::ARC_BY_TICKS,
     &properties::LABELS_BY_WALKS,
@@ -54,6 +58,11 @@ pub const CHECKS: [&Check; 26] = [
     &properties::ARC_HELD,
     &properties::HOLDS_AS_ARCS,
     &properties::HOLD_TABLE,
+    &properties::CONVERTED_AS_WRITTEN,
+    &properties::THERE_AND_BACK,
+    &properties::CONVERTED_TOWN,
+    &properties::COMMENTS_ADDED,
+    &properties::REFUSED_AS_LOADED,
 ];
 
 /// What a case came to, for counting.

@@ -1,7 +1,10 @@
 //! One implementation of the operations as a table of functions.
 
-use crate::reference::{Arrival, Counts, LoadRefusal, Network, Refusal};
+use crate::reference::{Arrival, Counts, Form, LoadRefusal, Network, Refusal};
 use crate::{cabinet, reference};
+
+/// Takes a text and a lent output, and returns the result's length.
+pub type Converter = fn(&[u8], &mut [u8]) -> Result<usize, LoadRefusal>;
 
 #[expect(clippy::type_complexity, reason = "the signatures are the operations'")]
 pub struct Operations {
@@ -16,10 +19,23 @@ pub struct Operations {
         tails: &mut [u16],
         heads: &mut [u16],
         lengths: &mut [u32],
+        holds: &mut [u16],
         speeds: &mut [u8],
     ) -> Result<Counts, LoadRefusal>,
     pub name: fn(&[u8], u32) -> &[u8],
     pub host_question: fn(&[u8], u32, u32, u32) -> u32,
+    pub to_new: Converter,
+    pub to_old: Converter,
+}
+
+impl Operations {
+    /// The converter to this form.
+    pub fn converter(&self, to: Form) -> Converter {
+        match to {
+            Form::Old => self.to_old,
+            Form::New => self.to_new,
+        }
+    }
 }
 
 pub const REFERENCE: Operations = Operations {
@@ -31,6 +47,8 @@ pub const REFERENCE: Operations = Operations {
     load: reference::load,
     name: reference::name,
     host_question: reference::host_question,
+    to_new: reference::to_new,
+    to_old: reference::to_old,
 };
 
 pub const CABINET: Operations = Operations {
@@ -42,4 +60,6 @@ pub const CABINET: Operations = Operations {
     load: cabinet::load,
     name: cabinet::name,
     host_question: cabinet::host_question,
+    to_new: cabinet::to_new,
+    to_old: cabinet::to_old,
 };

@@ -5,6 +5,7 @@
 //! changes nothing that was lent to it when it refuses.
 
 mod arc;
+mod convert;
 mod host;
 mod labels;
 pub mod limits;
@@ -16,11 +17,12 @@ mod route;
 mod sheet;
 
 pub use arc::{Arrival, arc_arrival};
+pub use convert::{to_new, to_old};
 pub use host::host_question;
 pub use labels::labels;
-pub use load::{Counts, load, name};
+pub use load::{Counts, Form, load, name};
 pub use network::{Network, network_check};
-pub use programs::{arrivals_text, sheet_text};
+pub use programs::{arrivals_text, sheet_text, to_new_text, to_old_text};
 pub use refusal::{LoadRefusal, Refusal};
 pub use route::route;
 pub use sheet::sheet;

@@ -12,10 +12,10 @@ use compare::comparison::program::{ARRIVALS, Program, Run, SHEET};
 use compare::comparison::{Difference, Outcome};
 use compare::inputs::OwnedNetwork;
 use compare::inputs::networks::LoneArc;
-use compare::inputs::texts::{pad, question_line, town_text};
+use compare::inputs::texts::{FORMS, pad, question_line, town_text};
 use compare::inputs::towns::{DEPARTURE, EVENING, SOURCE, Town, departures};
-use compare::reference::Refusal;
 use compare::reference::limits::{DAY, MAX_TEXT, NO_ARC, REFUSED, UNREACHED};
+use compare::reference::{Form, Refusal};
 
 #[test]
 fn program_input() {
@@ -104,10 +104,12 @@ fn last_tick() {
         assert_eq!(reply, Ok(()));
         assert_eq!(labels, expected);
 
-        let text = town_text(&network, &[]);
-        let answer = cabinet::host_question(&text, 0, 863_999, 2);
         let unreached = REFUSED + 13;
-        assert_eq!(answer, expected[2].min(unreached));
+        for form in FORMS {
+            let text = town_text(&network, form, &[]);
+            let answer = cabinet::host_question(&text, 0, 863_999, 2);
+            assert_eq!(answer, expected[2].min(unreached));
+        }
         let route = cabinet::route(&network.lent(), 0, 863_999, 2, &mut [0; 2]);
         assert_eq!(route.is_ok(), expected[2] != UNREACHED);
     }
@@ -363,22 +365,32 @@ fn longest_journeys() {
         for figures in figures[4..].chunks(4) {
             assert_eq!(figures, [reached, longest, longest, 1_728_000 * reached]);
         }
-        let input = [question_line(0, &departures), town_text(&network, &[])].concat();
-        assert_answered([
-            answers::sheet(&network, 0, &departures, (96 * 200, 4 * 200)),
-            answers::program(&SHEET, &input),
-        ]);
+        assert_answered([answers::sheet(
+            &network,
+            0,
+            &departures,
+            (96 * 200, 4 * 200),
+        )]);
+        for form in FORMS {
+            let town = town_text(&network, form, &[]);
+            let input = [question_line(0, &departures), town].concat();
+            assert_answered([answers::program(&SHEET, &input)]);
+        }
     }
 }
 
 #[test]
 fn towns_of_fixed_size() {
     for town in Town::NAMES.into_iter().filter_map(Town::named) {
-        assert_network_answered(&town);
-        if town.text.len() <= MAX_TEXT {
-            assert_text_answered(&town);
-        }
-        assert_network_answered(&town.with_holds());
+        assert_town_answered(&town, Form::Old);
+        assert_town_answered(&town.with_holds(), Form::New);
+    }
+}
+
+fn assert_town_answered(town: &Town, form: Form) {
+    assert_network_answered(town);
+    if town.text.len() <= MAX_TEXT {
+        assert_text_answered(town, form);
     }
 }
 
@@ -396,13 +408,13 @@ fn assert_network_answered(town: &Town) {
     assert_answered([answers::sheet(network, SOURCE, &departures(), buffers)]);
 }
 
-fn assert_text_answered(town: &Town) {
+fn assert_text_answered(town: &Town, form: Form) {
     let network = &town.network;
     let exact = TableLengths::exact(network.fences.len(), network.arcs());
     // Without names there is room for the question.
     let sheet_input = [
         question_line(SOURCE, &departures()),
-        town_text(network, &[]),
+        town_text(network, form, &[]),
     ]
     .concat();
     assert_answered([

@@ -65,6 +65,26 @@ fn sheet_program() {
 }
 
 #[test]
+fn to_new() {
+    run(&cases::TO_NEW);
+}
+
+#[test]
+fn to_old() {
+    run(&cases::TO_OLD);
+}
+
+#[test]
+fn to_new_program() {
+    run(&cases::TO_NEW_PROGRAM);
+}
+
+#[test]
+fn to_old_program() {
+    run(&cases::TO_OLD_PROGRAM);
+}
+
+#[test]
 fn non_passing() {
     run(&properties::NON_PASSING);
 }
@@ -142,4 +162,29 @@ fn holds_as_arcs() {
 #[test]
 fn hold_table() {
     run(&properties::HOLD_TABLE);
+}
+
+#[test]
+fn converted_as_written() {
+    run(&properties::CONVERTED_AS_WRITTEN);
+}
+
+#[test]
+fn there_and_back() {
+    run(&properties::THERE_AND_BACK);
+}
+
+#[test]
+fn converted_town() {
+    run(&properties::CONVERTED_TOWN);
+}
+
+#[test]
+fn comments_added() {
+    run(&properties::COMMENTS_ADDED);
+}
+
+#[test]
+fn refused_as_loaded() {
+    run(&properties::REFUSED_AS_LOADED);
 }

@@ -1,9 +1,10 @@
 //! The reckonings that document 01 keeps, alone and on a sheet, and more of them around
-//! midnight, put to the library and the reference. An arc's have their intervals.
+//! midnight and with holds, put to the library and the reference. An arc's have their
+//! intervals.
 
-use compare::comparison::program::{ARRIVALS, Run, SHEET};
-use compare::inputs::examples::{TABLE_1, TOWN, TOWN_TEXT};
-use compare::operations::{CABINET, Operations, REFERENCE};
+use compare::comparison::program::{ARRIVALS, Run, SHEET, TO_NEW, TO_OLD};
+use compare::inputs::examples::{HELD_TOWN, HELD_TOWN_TEXT, TABLE_1, TOWN, TOWN_TEXT};
+use compare::operations::{CABINET, Converter, Operations, REFERENCE};
 use compare::reference::limits::{NO_ARC, REFUSED};
 use compare::reference::{Arrival, Counts, LoadRefusal, Network, Refusal};
 
@@ -38,22 +39,24 @@ fn labels(
     Ok((labels, predecessors))
 }
 
-/// Loads a text that holds the town, or is refused.
-fn load(operations: &Operations, text: &str) -> Result<Counts, LoadRefusal> {
+/// Loads a text that holds the town, with these holds, or is refused.
+fn load(operations: &Operations, text: &str, expected: &[u16]) -> Result<Counts, LoadRefusal> {
     let (mut fences, mut tails, mut heads, mut lengths) = ([7; 2], [7; 3], [7; 3], [7; 3]);
-    let mut speeds = [7; 6];
+    let (mut holds, mut speeds) = ([7; 3], [7; 6]);
     let counts = (operations.load)(
         text.as_bytes(),
         &mut fences,
         &mut tails,
         &mut heads,
         &mut lengths,
+        &mut holds,
         &mut speeds,
     )?;
     assert_eq!(fences, TOWN.fences);
     assert_eq!(tails, TOWN.tails);
     assert_eq!(heads, TOWN.heads);
     assert_eq!(lengths, TOWN.lengths);
+    assert_eq!(holds, expected);
     assert_eq!(speeds, TOWN.speeds);
     Ok(counts)
 }
@@ -282,14 +285,77 @@ fn the_town() {
     };
     for operations in BOTH {
         let without_comment = TOWN_TEXT.replace("CM end of plan\n", "");
-        assert_eq!(load(&operations, TOWN_TEXT), Ok(counts));
-        assert_eq!(load(&operations, &without_comment), Ok(counts));
+        for text in [TOWN_TEXT, &without_comment] {
+            assert_eq!(load(&operations, text, TOWN.holds), Ok(counts));
+        }
         let expected = (vec![10, 60, 100], vec![NO_ARC, 0, 1]);
         assert_eq!(labels(&operations, &TOWN, 10), Ok(expected));
         let text = TOWN_TEXT.as_bytes();
         assert_eq!((operations.name)(text, 0), b"Mill Cross");
         assert_eq!((operations.host_question)(text, 0, 10, 2), 100);
     }
+}
+
+#[test]
+fn the_town_with_holds() {
+    let counts = Counts {
+        junctions: 3,
+        intervals: 2,
+        arcs: 3,
+    };
+    for operations in BOTH {
+        let reply = load(&operations, HELD_TOWN_TEXT, HELD_TOWN.holds);
+        assert_eq!(reply, Ok(counts));
+        // Arc 1 is at the stop line at 100 and goes on at 1,300; arc 2 is there at 110
+        // and goes on at 117.
+        let expected = (vec![10, 60, 117], vec![NO_ARC, 0, 2]);
+        assert_eq!(labels(&operations, &HELD_TOWN, 10), Ok(expected));
+        let text = HELD_TOWN_TEXT.as_bytes();
+        assert_eq!((operations.name)(text, 0), b"Mill Cross");
+        assert_eq!((operations.name)(text, 1), b"");
+        assert_eq!((operations.host_question)(text, 0, 10, 2), 117);
+        // The longest hold alone.
+        let text = HELD_TOWN_TEXT.replace("AR 1 2 50 36 36 7\n", "");
+        assert_eq!((operations.host_question)(text.as_bytes(), 0, 10, 2), 1_300);
+        let refused =
+            (operations.host_question)(text.replace(" 1200", " 1201").as_bytes(), 0, 10, 2);
+        assert_eq!(refused, REFUSED + 26);
+    }
+    let run = ARRIVALS.run(format!("QU 0 10\n{HELD_TOWN_TEXT}").as_bytes());
+    let expected = "junction arrival arc\n0 10 -\n1 60 0\n2 117 2\n";
+    assert_eq!(run, Run::ended(expected, 0));
+    let run = SHEET.run(format!("QU 0 10 100\n{HELD_TOWN_TEXT}").as_bytes());
+    let expected = "0 2 0 0 0\n1 2 50 100 150\n2 2 107 157 264\n";
+    assert_eq!(run, Run::ended(expected, 0));
+}
+
+#[test]
+fn the_town_in_both_forms() {
+    let new = TOWN_TEXT.replace("TN", "TW").replace(" 18\n", " 18 0\n");
+    let new = new
+        .replace(" 40 20\n", " 40 20 0\n")
+        .replace(" 36 36\n", " 36 36 0\n");
+    for operations in BOTH {
+        let converted = |converter: Converter, text: &str| {
+            let mut output = [7; 200];
+            let length = converter(text.as_bytes(), &mut output)?;
+            assert!(output[length..].iter().all(|&byte| byte == 7));
+            Ok(String::from_utf8_lossy(&output[..length]).into_owned())
+        };
+        assert_eq!(converted(operations.to_new, TOWN_TEXT), Ok(new.clone()));
+        assert_eq!(converted(operations.to_old, &new), Ok(TOWN_TEXT.to_owned()));
+        let refused = |number| {
+            Err(LoadRefusal {
+                refusal: Refusal(number),
+                line: 0,
+            })
+        };
+        assert_eq!(converted(operations.to_new, &new), refused(33));
+        assert_eq!(converted(operations.to_old, TOWN_TEXT), refused(33));
+        assert_eq!(converted(operations.to_old, HELD_TOWN_TEXT), refused(34));
+    }
+    assert_eq!(TO_NEW.run(TOWN_TEXT.as_bytes()), Run::ended(&new, 0));
+    assert_eq!(TO_OLD.run(new.as_bytes()), Run::ended(TOWN_TEXT, 0));
 }
 
 #[test]
@@ -327,7 +393,7 @@ fn the_empty_text() {
         line: 1,
     };
     for operations in BOTH {
-        assert_eq!(load(&operations, ""), Err(missing));
+        assert_eq!(load(&operations, "", &[]), Err(missing));
         assert_eq!((operations.host_question)(b"", 0, 10, 2), REFUSED + 27);
     }
 }

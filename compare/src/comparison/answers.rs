@@ -8,8 +8,8 @@ use super::{Difference, Outcome};
 use crate::inputs::OwnedNetwork;
 use crate::inputs::networks::LoneArc;
 use crate::operations::{CABINET, Operations, REFERENCE};
-use crate::reference::Refusal;
 use crate::reference::limits::{FIGURES, REFUSED};
+use crate::reference::{Form, Refusal};
 
 /// What an operation replied and what the lent buffers then hold.
 #[derive(Debug, PartialEq)]
@@ -177,6 +177,7 @@ pub struct TableLengths {
     pub tails: usize,
     pub heads: usize,
     pub lengths: usize,
+    pub holds: usize,
     pub speeds: usize,
 }
 
@@ -188,6 +189,7 @@ impl TableLengths {
             tails: arcs,
             heads: arcs,
             lengths: arcs,
+            holds: arcs,
             speeds: arcs * intervals,
         }
     }
@@ -201,6 +203,7 @@ pub fn load(text: &[u8], tables: TableLengths) -> Result<Outcome, Difference> {
         let mut tails = Lent::new(tables.tails);
         let mut heads = Lent::new(tables.heads);
         let mut lengths = Lent::new(tables.lengths);
+        let mut holds = Lent::new(tables.holds);
         let mut speeds = Lent::new(tables.speeds);
         let reply = (operations.load)(
             text,
@@ -208,6 +211,7 @@ pub fn load(text: &[u8], tables: TableLengths) -> Result<Outcome, Difference> {
             tails.part(),
             heads.part(),
             lengths.part(),
+            holds.part(),
             speeds.part(),
         );
         let (intervals, arcs) = reply.map_or((0, 0), |counts| {
@@ -219,8 +223,9 @@ pub fn load(text: &[u8], tables: TableLengths) -> Result<Outcome, Difference> {
                 && tails.kept_after(arcs)
                 && heads.kept_after(arcs)
                 && lengths.kept_after(arcs)
+                && holds.kept_after(arcs)
                 && speeds.kept_after(arcs * intervals),
-            buffers: (fences, tails, heads, lengths, speeds),
+            buffers: (fences, tails, heads, lengths, holds, speeds),
         }
     })?;
     Ok(Outcome::of(&reply.map_err(|refused| refused.refusal)))
@@ -252,6 +257,22 @@ pub fn host_question(
         None => Outcome::Answered,
         Some(number) => Outcome::Refused(Refusal(number)),
     })
+}
+
+/// Compares a conversion to this form, into an output of this length.
+pub fn convert(to: Form, text: &[u8], output_length: usize) -> Result<Outcome, Difference> {
+    let question = format!("conversion to the form {to:?}, output of {output_length}");
+    let input = || text.to_vec();
+    let reply = compare(&question, input, |operations| {
+        let mut output = Lent::<u8>::new(output_length);
+        let reply = operations.converter(to)(text, output.part());
+        Answer {
+            reply,
+            kept: output.kept_after(reply.unwrap_or(0)),
+            buffers: output,
+        }
+    })?;
+    Ok(Outcome::of(&reply.map_err(|refused| refused.refusal)))
 }
 
 /// Compares what a program prints with what the reference would, and its exit

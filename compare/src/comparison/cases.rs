@@ -8,13 +8,13 @@ use crate::inputs::networks::{
     LoneArc, interval_at, random_arc, random_arc_departure, random_departure, random_departures,
     random_network,
 };
-use crate::inputs::texts::{pad, question_line, random_town};
+use crate::inputs::texts::{pad, question_line, random_town, random_town_of};
 use crate::inputs::{OwnedNetwork, Random};
-use crate::reference;
 use crate::reference::limits::{
     DAY, FIGURES, LAST_TICK, MAX_ARCS, MAX_DEPARTURES, MAX_INTERVALS, MAX_LENGTH, MAX_SPEED,
     MAX_TEXT,
 };
+use crate::reference::{self, Form};
 
 pub const NETWORK_CHECK: Check = Check {
     name: "network check",
@@ -94,6 +94,39 @@ pub const SHEET_PROGRAM: Check = Check {
     run: sheet_program,
     finds_nothing: false,
     refuses: &[9..=10, 20..=27, 30..=30],
+};
+
+pub const TO_NEW: Check = Check {
+    name: "to new",
+    cases: 15_000,
+    run: to_new,
+    finds_nothing: false,
+    refuses: &[20..=27, 33..=33, 35..=35],
+};
+
+pub const TO_OLD: Check = Check {
+    name: "to old",
+    cases: 15_000,
+    run: to_old,
+    finds_nothing: false,
+    refuses: &[20..=27, 33..=35],
+};
+
+pub const TO_NEW_PROGRAM: Check = Check {
+    name: "program to_new",
+    cases: 1_000,
+    run: to_new_program,
+    finds_nothing: false,
+    refuses: &[20..=27, 33..=33, 35..=35],
+};
+
+/// Its output takes every result.
+pub const TO_OLD_PROGRAM: Check = Check {
+    name: "program to_old",
+    cases: 1_000,
+    run: to_old_program,
+    finds_nothing: false,
+    refuses: &[20..=27, 33..=34],
 };
 
 fn network_check(random: &mut Random) -> Result<Outcome, Difference> {
@@ -185,6 +218,7 @@ fn load(random: &mut Random) -> Result<Outcome, Difference> {
             tails: near(random, exact.tails),
             heads: near(random, exact.heads),
             lengths: near(random, exact.lengths),
+            holds: near(random, exact.holds),
             speeds: near(random, exact.speeds),
         },
     };
@@ -216,6 +250,57 @@ fn sheet_program(random: &mut Random) -> Result<Outcome, Difference> {
     let departures = random_list(random, &network);
     let question = question_line(source, &departures);
     program(random, &program::SHEET, question, text)
+}
+
+fn to_new(random: &mut Random) -> Result<Outcome, Difference> {
+    convert(random, Form::New)
+}
+
+fn to_old(random: &mut Random) -> Result<Outcome, Difference> {
+    convert(random, Form::Old)
+}
+
+fn convert(random: &mut Random, to: Form) -> Result<Outcome, Difference> {
+    let (length, text) = random_text_to_convert(random, to);
+    let output = match random.below(3) {
+        0 => MAX_TEXT + random.index(2) * 100,
+        _ => near(random, length),
+    };
+    answers::convert(to, &text, output)
+}
+
+fn to_new_program(random: &mut Random) -> Result<Outcome, Difference> {
+    let (_, text) = random_text_to_convert(random, Form::New);
+    answers::program(&program::TO_NEW, &text)
+}
+
+fn to_old_program(random: &mut Random) -> Result<Outcome, Difference> {
+    let (_, text) = random_text_to_convert(random, Form::Old);
+    answers::program(&program::TO_OLD, &text)
+}
+
+/// A text, mostly of the other form, that is damaged at times or as long as it or its
+/// result may be, and the length that its result has if it is neither refused nor damaged.
+fn random_text_to_convert(random: &mut Random, to: Form) -> (usize, Vec<u8>) {
+    let from = if random.one_in(6) { to } else { to.other() };
+    let (network, mut text) = random_town_of(random, from);
+    let holds = " 0".len() * network.arcs();
+    match random.below(4) {
+        0 => {
+            let longest = match to {
+                Form::Old => MAX_TEXT,
+                Form::New => MAX_TEXT - holds,
+            };
+            pad(&mut text, longest - 1 + random.index(3));
+        }
+        1 => {}
+        _ => damage_text(random, &mut text),
+    }
+    let length = match to {
+        Form::Old => text.len().saturating_sub(holds),
+        Form::New => text.len() + holds,
+    };
+    (length, text)
 }
 
 /// Asks a program, at times with a damaged line or with too many bytes.

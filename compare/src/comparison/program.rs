@@ -24,6 +24,16 @@ pub const SHEET: Program = Program {
     reference: reference::sheet_text,
 };
 
+pub const TO_NEW: Program = Program {
+    name: "to_new",
+    reference: reference::to_new_text,
+};
+
+pub const TO_OLD: Program = Program {
+    name: "to_old",
+    reference: reference::to_old_text,
+};
+
 /// Where the programs stand, unless the environment names another for one, in
 /// the variable of its name in capitals.
 const BUILT: &str = concat!(env!("CARGO_MANIFEST_DIR"), "/../target/bin");

@@ -1,11 +1,16 @@
 //! Properties of the library's own answers, reckoned without the reference:
 //! tick by tick and walk by walk, as the documents define arrivals and labels.
 
+mod forms;
 mod holds;
 mod intervals;
 mod midnight;
 mod sheets;
 
+pub use forms::{
+    COMMENTS_ADDED, CONVERTED_AS_WRITTEN, CONVERTED_TOWN, REFUSED_AS_LOADED, THERE_AND_BACK,
+    converted_town, there_and_back,
+};
 pub use holds::{ARC_HELD, HOLD_TABLE, HOLDS_AS_ARCS};
 pub use intervals::{INTERVALS_PASSED_ON, LABELS_BY_ARCS, LABELS_OF_PATHS, ONE_INTERVAL};
 pub use midnight::{DAY_LATER, LABELS_ROTATED};

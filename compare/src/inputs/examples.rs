@@ -1,4 +1,4 @@
-//! The examples that document 01 itself gives.
+//! The examples that document 01 itself gives, and its town with holds.
 
 use crate::reference::Network;
 
@@ -12,7 +12,7 @@ AR 1 2 50 36 36
 CM end of plan
 ";
 
-/// What the text says; town files so far have hold 0.
+/// What the text says; an old file has hold 0.
 pub const TOWN: Network = Network {
     junctions: 3,
     fences: &[0, 100],
@@ -21,6 +21,22 @@ pub const TOWN: Network = Network {
     lengths: &[50, 100, 50],
     holds: &[0; 3],
     speeds: &[36, 18, 40, 20, 36, 36],
+};
+
+/// The same town in the new form, held at both stop lines of junction 2.
+pub const HELD_TOWN_TEXT: &str = "\
+TW 3 2
+FN 0 100
+JN 0 Mill Cross
+AR 0 1 50 36 18 0
+AR 0 2 100 40 20 1200
+AR 1 2 50 36 36 7
+CM end of plan
+";
+
+pub const HELD_TOWN: Network = Network {
+    holds: &[0, 1_200, 7],
+    ..TOWN
 };
 
 /// Document 004, Table 1, with o, a, b, c, d as 0 to 4.

@@ -4,19 +4,59 @@ use std::fmt::{self, Write};
 
 use super::networks::random_network;
 use super::{OwnedNetwork, Random};
+use crate::reference::Form;
 use crate::reference::limits::{MAX_LINE, MAX_NAME};
 
-/// A network and its town file with names and comments, valid unless too long.
-pub fn random_town(random: &mut Random) -> (OwnedNetwork, Vec<u8>) {
-    let mut network = random_network(random);
-    network.holds.fill(0);
-    let names = random_names(random, network.junctions);
-    let mut lines = lines(&town_text(&network, &names));
-    for _ in 0..random.below(4) {
-        let place = random.place(lines.len() + 1);
-        lines.insert(place, random_comment(random));
+pub const FORMS: [Form; 2] = [Form::Old, Form::New];
+
+/// A town with names and comments, to be written as a file of either form. The file is
+/// valid unless too long; the old form cannot say the holds.
+pub struct RandomTown {
+    pub network: OwnedNetwork,
+    names: Vec<(u32, String)>,
+    comments: Comments,
+}
+
+/// Comments to put in one after the other, each with the number of lines before it.
+pub type Comments = Vec<(usize, Vec<u8>)>;
+
+impl RandomTown {
+    /// A town that often has no holds.
+    pub fn new(random: &mut Random) -> Self {
+        let mut network = random_network(random);
+        if random.one_in(3) {
+            network.holds.fill(0);
+        }
+        let names = random_names(random, network.junctions);
+        let lines = 2 + names.len() + network.arcs();
+        let count = random.index(4);
+        Self {
+            comments: random_comments(random, lines, count),
+            network,
+            names,
+        }
     }
-    (network, lines.concat())
+
+    pub fn text(&self, form: Form) -> Vec<u8> {
+        let text = town_text(&self.network, form, &self.names);
+        with_comments(&text, &self.comments)
+    }
+}
+
+/// A network and its town file, valid unless too long.
+pub fn random_town(random: &mut Random) -> (OwnedNetwork, Vec<u8>) {
+    let form = random.pick(&FORMS);
+    random_town_of(random, form)
+}
+
+/// A network and its town file of this form, valid unless too long.
+pub fn random_town_of(random: &mut Random, form: Form) -> (OwnedNetwork, Vec<u8>) {
+    let mut town = RandomTown::new(random);
+    if form == Form::Old {
+        town.network.holds.fill(0);
+    }
+    let text = town.text(form);
+    (town.network, text)
 }
 
 fn random_names(random: &mut Random, junctions: u32) -> Vec<(u32, String)> {
@@ -33,6 +73,7 @@ fn random_names(random: &mut Random, junctions: u32) -> Vec<(u32, String)> {
 fn random_name(random: &mut Random) -> String {
     let length = random.up_to_one_of(&[2, MAX_NAME as u32]) as usize;
     let mut name = printed_bytes(random, length);
+    put_pieces(random, &mut name);
     for end in [0, length - 1] {
         if name[end] == b' ' {
             name[end] = b'~';
@@ -41,28 +82,92 @@ fn random_name(random: &mut Random) -> String {
     String::from_utf8(name).expect("printed bytes are ASCII")
 }
 
+/// So many comments for a text of so many lines.
+pub fn random_comments(random: &mut Random, lines: usize, count: usize) -> Comments {
+    let comment = |present| (random.place(present + 1), random_comment(random));
+    (lines..lines + count).map(comment).collect()
+}
+
+pub fn with_comments(text: &[u8], comments: &Comments) -> Vec<u8> {
+    let mut lines = lines(text);
+    for (place, comment) in comments {
+        lines.insert(*place, comment.clone());
+    }
+    lines.concat()
+}
+
 fn random_comment(random: &mut Random) -> Vec<u8> {
     let length = random.up_to_one_of(&[3, 60, MAX_LINE as u32 - 2]) as usize;
     let mut line = b"CM".to_vec();
     line.extend(printed_bytes(random, length));
     line[2] = b' ';
+    put_pieces(random, &mut line[3..]);
     line.push(b'\n');
     line
+}
+
+/// What other lines begin or end with, and a converter might take for theirs.
+const PIECES: [&str; 14] = [
+    "TN",
+    "TW",
+    "AR",
+    "TN 3 2",
+    "TW 3 2",
+    "AR 0 1 50",
+    "AR 1 0 9 36 0",
+    "FN 0",
+    "JN 0",
+    "CM",
+    "0",
+    " 0",
+    " 0 0",
+    " 1200",
+];
+
+/// Puts such pieces at the start and the end, at times, where they have room.
+fn put_pieces(random: &mut Random, bytes: &mut [u8]) {
+    for at_end in [false, true] {
+        let piece = random.pick(&PIECES).as_bytes();
+        let start = if at_end {
+            bytes.len().saturating_sub(piece.len())
+        } else {
+            0
+        };
+        if random.one_in(2)
+            && let Some(place) = bytes[start..].get_mut(..piece.len())
+        {
+            place.copy_from_slice(piece);
+        }
+    }
 }
 
 fn printed_bytes(random: &mut Random, length: usize) -> Vec<u8> {
     (0..length).map(|_| 32 + random.below(95) as u8).collect()
 }
 
-/// Writes a network as a town file, which cannot say its holds.
-pub fn town_text(network: &OwnedNetwork, names: &[(u32, String)]) -> Vec<u8> {
+/// Writes a network as a town file. The old form cannot say its holds.
+pub fn town_text(network: &OwnedNetwork, form: Form, names: &[(u32, String)]) -> Vec<u8> {
     let mut text = String::new();
-    write_town(&mut text, network, names).expect("a string takes every line");
+    write_town(&mut text, network, form, names).expect("a string takes every line");
     text.into_bytes()
 }
 
-fn write_town(text: &mut String, network: &OwnedNetwork, names: &[(u32, String)]) -> fmt::Result {
-    writeln!(text, "TN {} {}", network.junctions, network.fences.len())?;
+fn write_town(
+    text: &mut String,
+    network: &OwnedNetwork,
+    form: Form,
+    names: &[(u32, String)],
+) -> fmt::Result {
+    let mark = match form {
+        Form::Old => "TN",
+        Form::New => "TW",
+    };
+    writeln!(
+        text,
+        "{mark} {} {}",
+        network.junctions,
+        network.fences.len()
+    )?;
     write!(text, "FN")?;
     end_line(text, &network.fences)?;
     for (junction, name) in names {
@@ -71,16 +176,25 @@ fn write_town(text: &mut String, network: &OwnedNetwork, names: &[(u32, String)]
     for arc in 0..network.arcs() {
         let (tail, head) = (network.tails[arc], network.heads[arc]);
         write!(text, "AR {tail} {head} {}", network.lengths[arc])?;
-        end_line(text, network.lent().arc_speeds(arc))?;
+        put_numbers(text, network.lent().arc_speeds(arc))?;
+        match form {
+            Form::Old => end_line::<u16>(text, &[])?,
+            Form::New => end_line(text, &[network.holds[arc]])?,
+        }
     }
     Ok(())
 }
 
 /// Writes each number after one space.
-fn end_line<T: fmt::Display>(text: &mut String, numbers: &[T]) -> fmt::Result {
+fn put_numbers<T: fmt::Display>(text: &mut String, numbers: &[T]) -> fmt::Result {
     for number in numbers {
         write!(text, " {number}")?;
     }
+    Ok(())
+}
+
+fn end_line<T: fmt::Display>(text: &mut String, numbers: &[T]) -> fmt::Result {
+    put_numbers(text, numbers)?;
     writeln!(text)
 }
 
@@ -115,7 +229,7 @@ pub(super) fn comment_of(bytes: usize) -> Vec<u8> {
 }
 
 /// The lines of a text, each with its line feed.
-pub(super) fn lines(text: &[u8]) -> Vec<Vec<u8>> {
+pub fn lines(text: &[u8]) -> Vec<Vec<u8>> {
     let lines = text.split_inclusive(|&byte| byte == b'\n');
     lines.map(<[u8]>::to_vec).collect()
 }

@@ -3,12 +3,13 @@
 use super::grids::street_grid;
 use super::texts::{pad, town_text};
 use super::{OwnedNetwork, Random};
+use crate::reference::Form;
 use crate::reference::limits::{DAY, MAX_ARCS, MAX_DEPARTURES, MAX_HOLD, MAX_INTERVALS, MAX_TEXT};
 
 pub struct Town {
     pub name: &'static str,
     pub network: OwnedNetwork,
-    /// Its town file, with every junction named. That of `full` is too long.
+    /// Its town file, of the old form at first. That of `full` is too long.
     pub text: Vec<u8>,
 }
 
@@ -25,14 +26,21 @@ pub fn departures() -> Vec<u32> {
     (0..DAY).step_by(STEP as usize).collect()
 }
 
+const LARGE: &str = "large";
+
+fn names(network: &OwnedNetwork) -> Vec<(u32, String)> {
+    let name = |junction| (junction, format!("Crossing {junction}"));
+    (0..network.junctions).map(name).collect()
+}
+
 impl Town {
-    pub const NAMES: [&str; 4] = ["small", "middle", "large", "full"];
+    pub const NAMES: [&str; 4] = ["small", "middle", LARGE, "full"];
 
     pub fn named(name: &str) -> Option<Self> {
         match name {
             "small" => Some(Self::new("small", (5, 2), 26, 4)),
             "middle" => Some(Self::new("middle", (10, 6), 200, 12)),
-            "large" => Some(Self::large()),
+            LARGE => Some(Self::large()),
             "full" => Some(Self::biggest("full", MAX_INTERVALS)),
             _ => None,
         }
@@ -41,10 +49,9 @@ impl Town {
     /// The most junctions and arcs, with as many intervals as a text can hold.
     fn large() -> Self {
         let counts: Vec<usize> = (1..=MAX_INTERVALS).collect();
-        let fits = |&intervals: &usize| Self::biggest("large", intervals).text.len() <= MAX_TEXT;
-        let mut town = Self::biggest("large", counts.partition_point(fits));
-        pad(&mut town.text, MAX_TEXT);
-        town
+        let fits = |&intervals: &usize| Self::biggest(LARGE, intervals).text.len() <= MAX_TEXT;
+        let town = Self::biggest(LARGE, counts.partition_point(fits));
+        town.with_file(Form::Old, MAX_TEXT)
     }
 
     fn biggest(name: &'static str, intervals: usize) -> Self {
@@ -53,20 +60,42 @@ impl Town {
 
     fn new(name: &'static str, grid: (u32, u32), arcs: usize, intervals: usize) -> Self {
         let network = street_grid(&mut Random::new(1), grid, intervals, arcs);
-        let names: Vec<_> = (0..network.junctions)
-            .map(|junction| (junction, format!("Crossing {junction}")))
-            .collect();
         Self {
             name,
-            text: town_text(&network, &names),
+            text: town_text(&network, Form::Old, &names(&network)),
             network,
         }
     }
 
     /// The same streets with holds, none at about a quarter of the arcs, else up to the
-    /// longest. Its town file is that of the town without them.
+    /// longest, and with a file of the new form.
     pub fn with_holds(mut self) -> Self {
         self.network.hold_up_to(&mut Random::new(2), MAX_HOLD);
+        self.with_file(Form::New, MAX_TEXT)
+    }
+
+    /// With a file to be converted to this form; the longer one of the two is as long as
+    /// the town's file may be.
+    pub fn to_convert(self, to: Form) -> Self {
+        match to {
+            Form::Old => self.with_file(Form::New, MAX_TEXT),
+            Form::New => {
+                let holds = " 0".len() * self.network.arcs();
+                self.with_file(Form::Old, MAX_TEXT - holds)
+            }
+        }
+    }
+
+    /// With a file of this form, in which every junction has a name, or as many of the
+    /// last ones as there is room for. That of the large town is as long as it may be.
+    fn with_file(mut self, form: Form, most: usize) -> Self {
+        let names = names(&self.network);
+        let text = |first| town_text(&self.network, form, &names[first..]);
+        let places: Vec<usize> = (0..names.len()).collect();
+        self.text = text(places.partition_point(|&first| text(first).len() > most));
+        if self.name == LARGE {
+            pad(&mut self.text, most);
+        }
         self
     }
 

@@ -17,7 +17,7 @@ fn answer(text: &[u8], source: u32, departure: u32, destination: u32) -> Result<
 #[cfg(test)]
 mod tests {
     use super::*;
-    use crate::inputs::examples::TOWN_TEXT;
+    use crate::inputs::examples::{HELD_TOWN_TEXT, TOWN_TEXT};
 
     const TOWN: &[u8] = TOWN_TEXT.as_bytes();
 
@@ -25,6 +25,8 @@ mod tests {
     fn answers_with_the_label() {
         assert_eq!(host_question(TOWN, 0, 10, 2), 100);
         assert_eq!(host_question(TOWN, 2, 863_999, 2), 863_999);
+        // By arcs 0 and 2, and then the hold.
+        assert_eq!(host_question(HELD_TOWN_TEXT.as_bytes(), 0, 10, 2), 117);
     }
 
     #[test]

@@ -1,8 +1,8 @@
 use std::io::BufRead;
 
 use super::limits::{
-    DAY, MAX_ARCS, MAX_INTERVALS, MAX_JUNCTIONS, MAX_LENGTH, MAX_LINE, MAX_NAME, MAX_SPEED,
-    MAX_TEXT, SIX_DIGITS,
+    DAY, MAX_ARCS, MAX_HOLD, MAX_INTERVALS, MAX_JUNCTIONS, MAX_LENGTH, MAX_LINE, MAX_NAME,
+    MAX_SPEED, MAX_TEXT, SIX_DIGITS,
 };
 use super::{LoadRefusal, Network, Refusal};
 
@@ -13,6 +13,25 @@ pub struct Counts {
     pub arcs: u32,
 }
 
+/// The two forms of a town file.
+#[derive(Clone, Copy, Debug, Default, PartialEq, Eq)]
+pub enum Form {
+    /// It has `TN`, and no holds.
+    #[default]
+    Old,
+    /// It has `TW`, and a hold at the end of each `AR` line.
+    New,
+}
+
+impl Form {
+    pub fn other(self) -> Self {
+        match self {
+            Self::Old => Self::New,
+            Self::New => Self::Old,
+        }
+    }
+}
+
 /// Reads a town file into the lent tables.
 pub fn load(
     text: &[u8],
@@ -20,6 +39,7 @@ pub fn load(
     tails: &mut [u16],
     heads: &mut [u16],
     lengths: &mut [u32],
+    holds: &mut [u16],
     speeds: &mut [u8],
 ) -> Result<Counts, LoadRefusal> {
     let town = Town::read(text)?;
@@ -27,6 +47,7 @@ pub fn load(
         && tails.len() >= town.tails.len()
         && heads.len() >= town.heads.len()
         && lengths.len() >= town.lengths.len()
+        && holds.len() >= town.holds.len()
         && speeds.len() >= town.speeds.len();
     if !long_enough {
         return Err(Refusal::TABLE_TOO_SHORT.at_line(0));
@@ -35,6 +56,7 @@ pub fn load(
     tails[..town.tails.len()].copy_from_slice(&town.tails);
     heads[..town.heads.len()].copy_from_slice(&town.heads);
     lengths[..town.lengths.len()].copy_from_slice(&town.lengths);
+    holds[..town.holds.len()].copy_from_slice(&town.holds);
     speeds[..town.speeds.len()].copy_from_slice(&town.speeds);
     Ok(Counts {
         junctions: town.junctions,
@@ -54,6 +76,7 @@ pub fn name(text: &[u8], junction: u32) -> &[u8] {
 /// A town file as read; its values are within the network's limits.
 #[derive(Default)]
 pub(super) struct Town<'t> {
+    form: Form,
     junctions: u32,
     intervals: usize,
     names: Vec<(u32, &'t [u8])>,
@@ -61,11 +84,9 @@ pub(super) struct Town<'t> {
     tails: Vec<u16>,
     heads: Vec<u16>,
     lengths: Vec<u32>,
+    holds: Vec<u16>,
     speeds: Vec<u8>,
 }
-
-/// Town files so far have hold 0.
-static NO_HOLDS: [u16; MAX_ARCS] = [0; MAX_ARCS];
 
 impl<'t> Town<'t> {
     pub fn read(text: &'t [u8]) -> Result<Self, LoadRefusal> {
@@ -86,6 +107,10 @@ impl<'t> Town<'t> {
         Ok(reader.town)
     }
 
+    pub fn form(&self) -> Form {
+        self.form
+    }
+
     pub fn network(&self) -> Network<'_> {
         Network {
             junctions: self.junctions,
@@ -93,7 +118,7 @@ impl<'t> Town<'t> {
             tails: &self.tails,
             heads: &self.heads,
             lengths: &self.lengths,
-            holds: &NO_HOLDS[..self.tails.len()],
+            holds: &self.holds,
             speeds: &self.speeds,
         }
     }
@@ -124,6 +149,7 @@ impl<'t> Reader<'t> {
                 tails: Vec::with_capacity(MAX_ARCS),
                 heads: Vec::with_capacity(MAX_ARCS),
                 lengths: Vec::with_capacity(MAX_ARCS),
+                holds: Vec::with_capacity(MAX_ARCS),
                 speeds: Vec::with_capacity(text.len() / 2),
                 ..Town::default()
             },
@@ -137,7 +163,8 @@ impl<'t> Reader<'t> {
         Refusal::LINE_TOO_LONG.unless(line.len() <= MAX_LINE)?;
         let (mark, fields) = line.split_first_chunk().ok_or(Refusal::UNKNOWN_MARK)?;
         match mark {
-            b"TN" => self.counts(fields),
+            b"TN" => self.counts(Form::Old, fields),
+            b"TW" => self.counts(Form::New, fields),
             b"FN" => self.fences(fields),
             b"JN" => self.junction(fields),
             b"AR" => self.arc(fields),
@@ -146,7 +173,7 @@ impl<'t> Reader<'t> {
         }
     }
 
-    fn counts(&mut self, fields: &[u8]) -> Result<(), Refusal> {
+    fn counts(&mut self, form: Form, fields: &[u8]) -> Result<(), Refusal> {
         Refusal::OUT_OF_TURN.unless(self.turn == Turn::Counts)?;
         let Some(&[junctions, intervals]) = take_numbers(fields, &mut self.numbers) else {
             return Err(Refusal::FORM);
@@ -155,6 +182,7 @@ impl<'t> Reader<'t> {
         let within =
             (1..=MAX_JUNCTIONS).contains(&junctions) && (1..=MAX_INTERVALS).contains(&intervals);
         Refusal::LIMITS.unless(within)?;
+        self.town.form = form;
         self.town.junctions = junctions;
         self.town.intervals = intervals;
         self.turn = Turn::Fences;
@@ -189,21 +217,27 @@ impl<'t> Reader<'t> {
     fn arc(&mut self, fields: &[u8]) -> Result<(), Refusal> {
         Refusal::OUT_OF_TURN.unless(self.turn >= Turn::Junctions)?;
         let numbers = take_numbers(fields, &mut self.numbers).ok_or(Refusal::FORM)?;
-        let &[tail, head, length, ref speeds @ ..] = numbers else {
+        let &[tail, head, length, ref rest @ ..] = numbers else {
             return Err(Refusal::FORM);
         };
         let town = &mut self.town;
+        let (&hold, speeds) = match town.form {
+            Form::Old => (&0, rest),
+            Form::New => rest.split_last().ok_or(Refusal::FORM)?,
+        };
         Refusal::FORM.unless(speeds.len() == town.intervals)?;
         let within = tail < town.junctions
             && head < town.junctions
             && tail != head
             && (1..=MAX_LENGTH).contains(&length)
+            && hold <= MAX_HOLD.into()
             && speeds.iter().all(|&speed| speed <= MAX_SPEED.into())
             && town.tails.len() < MAX_ARCS;
         Refusal::LIMITS.unless(within)?;
         town.tails.push(tail as u16);
         town.heads.push(head as u16);
         town.lengths.push(length);
+        town.holds.push(hold as u16);
         town.speeds.extend(speeds.iter().map(|&speed| speed as u8));
         self.turn = Turn::Arcs;
         Ok(())
@@ -266,29 +300,36 @@ fn is_comment(fields: &[u8]) -> bool {
 #[cfg(test)]
 mod tests {
     use super::*;
-    use crate::inputs::examples::{TOWN, TOWN_TEXT};
+    use crate::inputs::examples::{HELD_TOWN, HELD_TOWN_TEXT, TOWN, TOWN_TEXT};
 
-    /// Loads the paper's town into tables of these lengths.
-    fn load_into(lengths: [usize; 5]) -> Result<Counts, LoadRefusal> {
+    /// Loads the paper's town, or the one with holds, into tables of these lengths.
+    fn load_into(form: Form, lengths: [usize; 6]) -> Result<Counts, LoadRefusal> {
+        let (town, text) = match form {
+            Form::Old => (TOWN, TOWN_TEXT),
+            Form::New => (HELD_TOWN, HELD_TOWN_TEXT),
+        };
         let mut fences = vec![7; lengths[0]];
         let mut tails = vec![7; lengths[1]];
         let mut heads = vec![7; lengths[2]];
         let mut metres = vec![7; lengths[3]];
-        let mut speeds = vec![7; lengths[4]];
+        let mut holds = vec![7; lengths[4]];
+        let mut speeds = vec![7; lengths[5]];
         let reply = load(
-            TOWN_TEXT.as_bytes(),
+            text.as_bytes(),
             &mut fences,
             &mut tails,
             &mut heads,
             &mut metres,
+            &mut holds,
             &mut speeds,
         );
         let written = reply.map_or(0, |_| 1);
-        assert_eq!(fences, kept_after(&TOWN.fences[..2 * written], lengths[0]));
-        assert_eq!(tails, kept_after(&TOWN.tails[..3 * written], lengths[1]));
-        assert_eq!(heads, kept_after(&TOWN.heads[..3 * written], lengths[2]));
-        assert_eq!(metres, kept_after(&TOWN.lengths[..3 * written], lengths[3]));
-        assert_eq!(speeds, kept_after(&TOWN.speeds[..6 * written], lengths[4]));
+        assert_eq!(fences, kept_after(&town.fences[..2 * written], lengths[0]));
+        assert_eq!(tails, kept_after(&town.tails[..3 * written], lengths[1]));
+        assert_eq!(heads, kept_after(&town.heads[..3 * written], lengths[2]));
+        assert_eq!(metres, kept_after(&town.lengths[..3 * written], lengths[3]));
+        assert_eq!(holds, kept_after(&town.holds[..3 * written], lengths[4]));
+        assert_eq!(speeds, kept_after(&town.speeds[..6 * written], lengths[5]));
         reply
     }
 
@@ -300,22 +341,27 @@ mod tests {
     }
 
     #[test]
-    fn loads_the_papers_town() {
+    fn loads_the_papers_town_and_one_with_holds() {
         let counts = Counts {
             junctions: 3,
             intervals: 2,
             arcs: 3,
         };
-        assert_eq!(load_into([2, 3, 3, 3, 6]), Ok(counts));
-        assert_eq!(load_into([3, 5, 4, 9, 7]), Ok(counts));
+        for form in [Form::Old, Form::New] {
+            assert_eq!(load_into(form, [2, 3, 3, 3, 3, 6]), Ok(counts));
+            assert_eq!(load_into(form, [3, 5, 4, 9, 8, 7]), Ok(counts));
+        }
     }
 
     #[test]
     fn refuses_each_table_too_short_and_changes_none() {
-        for short in 0..5 {
-            let mut lengths = [2, 3, 3, 3, 6];
-            lengths[short] -= 1;
-            assert_eq!(load_into(lengths), Err(Refusal::TABLE_TOO_SHORT.at_line(0)));
+        for form in [Form::Old, Form::New] {
+            for short in 0..6 {
+                let mut lengths = [2, 3, 3, 3, 3, 6];
+                lengths[short] -= 1;
+                let refused = Refusal::TABLE_TOO_SHORT.at_line(0);
+                assert_eq!(load_into(form, lengths), Err(refused));
+            }
         }
     }
 
@@ -329,6 +375,9 @@ mod tests {
         assert_eq!(name(text, 1), b"");
         assert_eq!(name(text, 3), b"");
         assert_eq!(name(text, u32::MAX), b"");
+        let text = b"TW 3 1\nFN 0\nJN 1 TN\nAR 0 1 1 1 0\n";
+        assert_eq!(name(text, 1).as_ptr(), text[17..].as_ptr());
+        assert_eq!(name(text, 1), b"TN");
     }
 
     #[test]

@@ -1,10 +1,12 @@
-//! What the programs print. They have in common the question's line before a
-//! town file, and how a refusal is printed.
+//! What the programs print. They have in common how a refusal is printed; those that
+//! reckon also have the question's line before a town file.
 
 mod arrivals;
+mod convert;
 mod sheet;
 
 pub use arrivals::arrivals_text;
+pub use convert::{to_new_text, to_old_text};
 pub use sheet::sheet_text;
 
 use super::limits::MAX_TEXT;
@@ -35,11 +37,11 @@ impl<'i> Question<'i> {
 }
 
 /// What a program prints for its answer.
-fn printed(answer: Result<String, LoadRefusal>) -> Vec<u8> {
-    let printed = answer.unwrap_or_else(|LoadRefusal { refusal, line }| {
-        format!("refused {} line {line}\n", refusal.0)
-    });
-    printed.into_bytes()
+fn printed(answer: Result<impl Into<Vec<u8>>, LoadRefusal>) -> Vec<u8> {
+    answer.map_or_else(
+        |LoadRefusal { refusal, line }| format!("refused {} line {line}\n", refusal.0).into(),
+        Into::into,
+    )
 }
 
 #[cfg(test)]

@@ -30,6 +30,9 @@ impl Refusal {
     pub const DEPARTURE_COUNT: Self = Self(30);
     pub const SHEET_LENGTHS: Self = Self(31);
     pub const HOLD: Self = Self(32);
+    pub const WANTED_FORM: Self = Self(33);
+    pub const HELD: Self = Self(34);
+    pub const RESULT_TOO_LONG: Self = Self(35);
     pub const DEPARTURE_INTERVAL: Self = Self(46);
 
     /// Refuses unless the condition holds.
@@ -45,7 +48,7 @@ impl Refusal {
     }
 }
 
-/// Load's refusal and the line it is found at.
+/// A refusal of Load or of a converter, and the line it is found at.
 #[derive(Clone, Copy, Debug, PartialEq, Eq)]
 pub struct LoadRefusal {
     pub refusal: Refusal,

@@ -12,7 +12,7 @@ use Rattle.model.specs.Rules.{firstBroken}
 use Rattle.model.proofs.Demands.{demand-2, only-tables-of-network}
 use Rattle.model.proofs.Tests.{ltb-cases}
 use Rattle.townfile.specs.FirstFault.{Reading, refusedAt, accepted, firstFault}
-use Rattle.townfile.specs.Grammar.{Bytes, Town, Describes, networkOf}
+use Rattle.townfile.specs.Grammar.{Bytes, Town, DescribesTown, networkOf}
 use Rattle.townfile.specs.declared.progress.Progress.{Progress}
 use Rattle.townfile.proofs.Described.{faultless-described}
 use Rattle.question_line.proofs.Answers.{rest-bytes}
@@ -41,9 +41,9 @@ module _ (input : List ℕ) (bytes : Bytes input) where
         let asked = asks-when-of-form input bytes source departure text .1 question in
         answer-asked input short (asked .0) ∙ rw (asked .1, asked .2, asked .3)
 
-    module _ {town : Town} (described : Describes text town) where
+    module _ {town : Town} (described : DescribesTown text town) where
       answer-town : answerTo input ≡ networkLabelling (networkOf town) source departure
-      answer-town = answer-question ∙ answer-described _ text described
+      answer-town = answer-question ∙ answer-described _ text (described .1)
 
       answer-unknown : town .junctions ≤ source → answerTo input ≡ refusedAt 9 0
       unfolding networkLabelling firstBroken
@@ -62,7 +62,7 @@ module _ (input : List ℕ) (bytes : Bytes input) where
 
   meant-table : {labels predecessors : List ℕ} → TableMeans input labels predecessors → answerTo input ≡ accepted (record { labels = labels; predecessors = predecessors })
   meant-table {labels} {predecessors} m =
-      let kept = m .described .kept .network-accepted in
+      let kept = m .described .1 .kept .network-accepted in
       let only = only-tables-of-network (networkOf (m .town)) kept (m .source) (m .departure) (m .source-below) (m .departure-below) labels predecessors in
       let tables = only .0 (m .certified, m .lowest) in
       rw (tables .0, tables .1) (answer-table (m .short-enough) (m .question) (m .described) (m .source-below) (m .departure-below))
@@ -81,7 +81,7 @@ module _ (input : List ℕ) (bytes : Bytes input) where
   -- ---- From the answer to its meaning
 
   described-means : length input ≤ 65536 → {source departure : ℕ} {text : List ℕ} → QuestionAndText input source departure text →
-      {town : Town} → Describes text town → Means input (answerTo input)
+      {town : Town} → DescribesTown text town → Means input (answerTo input)
   described-means short {source} {departure} question {town} described = elim (ltb-cases source (town .junctions)) [
     | inl below ↦ elim (ltb-cases departure day) [
       | inl early ↦ rw (answer-table short question described (below .1) (early .1)) (table-means (below .1) (early .1))
@@ -92,7 +92,7 @@ module _ (input : List ℕ) (bytes : Bytes input) where
     where
       table-means : source < town .junctions → departure < day → Means input (accepted (labellingOf (networkOf town) source departure))
       table-means below early =
-          let kept = described .kept .network-accepted in
+          let kept = described .1 .kept .network-accepted in
           let tables = only-tables-of-network (networkOf town) kept source departure below early _ _ .1 (refl, refl) in
           record {
             short-enough = short;
@@ -117,7 +117,7 @@ module _ (input : List ℕ) (bytes : Bytes input) where
     where
       go : (reading : Reading Progress) → firstFault text ≡ reading → Means input (answerTo input)
       go (refusedAt number line) e = rw (answer-question short question ∙ answer-faulty _ _ e) (faulty-text short question e)
-      go (accepted p) e = described-means short question (faultless-described (text-bytes question) e .1)
+      go (accepted p) e = described-means short question (p .held, faultless-described (text-bytes question) e .1)
 
   unasked : asks input ≡ false → (source departure : ℕ) (text : List ℕ) → QuestionAndText input source departure text → ⊥
   unasked a source departure text question =

@@ -10,7 +10,7 @@ use Rattle.model.specs.Walks.{Earliest}
 use Rattle.model.specs.Labels.{Certified, Lowest}
 use Rattle.model.specs.Network.{netOf}
 use Rattle.townfile.specs.FirstFault.{refusedAt, firstFault}
-use Rattle.townfile.specs.Grammar.{Bytes, Town, Describes, networkOf}
+use Rattle.townfile.specs.Grammar.{Bytes, Town, DescribesTown, networkOf}
 use Rattle.formatting.specs.Texts.{refusalText}
 use Rattle.arrivals_text.specs.Answer.{tableText, arrivalsText}
 use Rattle.arrivals_text.specs.Question.{QuestionAndText}
@@ -26,7 +26,7 @@ pub record TableMeans (input labels predecessors : List ℕ) : Type 0 where
   pub text : List ℕ
   pub question : QuestionAndText input source departure text
   pub town : Town
-  pub described : Describes text town
+  pub described : DescribesTown text town
   pub source-below : source < town .junctions
   pub departure-below : departure < day
   pub earliest : Earliest (netOf (networkOf town)) source departure (λ j. getD labels j never)
@@ -44,9 +44,9 @@ pub data RefusalMeans (input : List ℕ) : ℕ → ℕ → Type 0 where
       length input ≤ 65536 → QuestionAndText input source departure text → firstFault text ≡ refusedAt number line → RefusalMeans input number line
   -- "Then 9 or 10 with line 0": "9, source not below the junction count; 10, departure 864,000 or above".
   unknown-source : {source departure : ℕ} {text : List ℕ} {town : Town} →
-      length input ≤ 65536 → QuestionAndText input source departure text → Describes text town → town .junctions ≤ source → RefusalMeans input 9 0
+      length input ≤ 65536 → QuestionAndText input source departure text → DescribesTown text town → town .junctions ≤ source → RefusalMeans input 9 0
   late-departure : {source departure : ℕ} {text : List ℕ} {town : Town} →
-      length input ≤ 65536 → QuestionAndText input source departure text → Describes text town → source < town .junctions → day ≤ departure → RefusalMeans input 10 0
+      length input ≤ 65536 → QuestionAndText input source departure text → DescribesTown text town → source < town .junctions → day ≤ departure → RefusalMeans input 10 0
 
 -- ---- What is proved of it
 

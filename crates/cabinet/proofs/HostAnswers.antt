@@ -25,7 +25,7 @@ use Rattle.checking.specs.Question.{startRules}
 use Rattle.routing.specs.Route.{Routable, destinationRules, foundRules, routeAnswer}
 use Rattle.routing.proofs.RouteRules.{route-replies-when-routable, room-for-every-route}
 use Rattle.townfile.specs.FirstFault.{Reading, refusedAt, accepted, firstFault}
-use Rattle.townfile.specs.Grammar.{Bytes, Town, Describes, networkOf}
+use Rattle.townfile.specs.Grammar.{Bytes, Town, DescribesTown, networkOf}
 use Rattle.townfile.specs.Load.{roomyTables, loadAnswer}
 use Rattle.townfile.specs.declared.progress.Progress.{Progress}
 use Rattle.townfile.proofs.Described.{described-town, faultless-described}
@@ -35,7 +35,7 @@ use Rattle.cabinet.specs.Host.{hostList, afterRoute, labelOrCode, hostAn
 
 -- A text describes a town, or Load refuses it for a fault.
 abbrev TownOrFault : List ℕ → Type 0
-TownOrFault text = ((T : Town) × Describes text T) ⊎ ((number : ℕ) × (line : ℕ) × (loadAnswer text roomyTables ≡ refusedAt number line) × Fault number)
+TownOrFault text = ((T : Town) × DescribesTown text T) ⊎ ((number : ℕ) × (line : ℕ) × (loadAnswer text roomyTables ≡ refusedAt number line) × Fault number)
 
 loads : (text : List ℕ) → Bytes text → TownOrFault text
 unfolding loadAnswer
@@ -43,7 +43,7 @@ loads text bytes = go (firstFault text) refl
   where
     go : (reading : Reading Progress) → firstFault text ≡ reading → TownOrFault text
     go (refusedAt number line) e = inr (number, line, rw e, text-fault text number line e)
-    go (accepted p) e = inl (faultless-described bytes e)
+    go (accepted p) e = let found = faultless-described bytes e in inl (found .0, (p .held, found .1))
 
 -- ---- The answer
 
@@ -116,9 +116,9 @@ module _ (N : Network) (kept : Accepted N) (source departure destination : ℕ) 
 -- ---- The host's answer
 
 module _ (text : List ℕ) (source departure destination : ℕ) where
-  described-answers : {T : Town} → Describes text T → hostAnswer text source departure destination ≡ labelOrCode (networkOf T) source departure destination
+  described-answers : {T : Town} → DescribesTown text T → hostAnswer text source departure destination ≡ labelOrCode (networkOf T) source departure destination
   unfolding hostAnswer
-  described-answers described = rw (town-loads described, described-town described)
+  described-answers described = rw (town-loads (described .1), described-town (described .1))
 
   fault-answers : {number line : ℕ} → loadAnswer text roomyTables ≡ refusedAt number line → hostAnswer text source departure destination ≡ refusalBase + number
   unfolding hostAnswer
@@ -133,7 +133,7 @@ host-refuses-only text bytes source departure destination number e = go (loads t
     routed N kept (replied count) is e = absurd (omega (arith, label-below N kept source departure destination (answered-routable N kept source departure destination count is)))
 
     go : TownOrFault text → HostRefusal number
-    go (inl found) = routed (networkOf (found .0)) (found .1 .kept .network-accepted) _ refl (sym (described-answers text source departure destination (found .1)) ∙ e)
+    go (inl found) = routed (networkOf (found .0)) (found .1 .1 .kept .network-accepted) _ refl (sym (described-answers text source departure destination (found .1)) ∙ e)
     go (inr fault) =
         let answer = fault-answers text source departure destination (fault .2) in
         HostRefusal.text number (omega (arith, answer, e, fault .3 .0)) (omega (arith, answer, e, fault .3 .1))
@@ -141,11 +141,11 @@ host-refuses-only text bytes source departure destination number e = go (loads t
 pub host-answers-earliest : HostAnswersEarliest
 host-answers-earliest text bytes source departure destination tick = (forward, back)
   where
-    routed : {T : Town} → Describes text T → (outcome : Outcome ℕ) → routeAnswer (networkOf T) source departure destination hostList ≡ outcome →
+    routed : {T : Town} → DescribesTown text T → (outcome : Outcome ℕ) → routeAnswer (networkOf T) source departure destination hostList ≡ outcome →
         afterRoute outcome (label (networkOf T) source departure destination) ≡ tick → tick < refusalBase → Answers text source departure destination tick
     routed described (refused number) is e below = absurd (omega arith)
     routed {T} described (replied count) is e below =
-        let kept = described .kept .network-accepted in
+        let kept = described .1 .kept .network-accepted in
         let r = answered-routable (networkOf T) kept source departure destination count is in
         record {
           town = T;
@@ -166,7 +166,7 @@ host-answers-earliest text bytes source departure destination tick = (forward, b
     back : Answers text source departure destination tick → (hostAnswer text source departure destination ≡ tick) × (tick < refusalBase)
     back a =
         let N = networkOf (a .town) in
-        let kept = a .described .kept .network-accepted in
+        let kept = a .described .1 .kept .network-accepted in
         let early : departure ≤ last = omega (arith, a .departure-below) in
         let is-tick = earliest-answered N kept source departure destination (a .source-below) (a .departure-below) (a .destination-below) (a .earliest) in
         (described-answers text source departure destination (a .described) ∙ is-tick, omega (arith, arrives-by-last early (a .earliest .attained)))

@@ -15,7 +15,7 @@ use Rattle.refusals.specs.Refusals.{refusalBase}
 use Rattle.model.specs.Rules.{Outcome, refused, replied}
 use Rattle.routing.specs.Route.{routeAnswer}
 use Rattle.townfile.specs.FirstFault.{Reading, refusedAt, accepted}
-use Rattle.townfile.specs.Grammar.{Bytes, Town, Describes, networkOf}
+use Rattle.townfile.specs.Grammar.{Bytes, Town, DescribesTown, networkOf}
 use Rattle.townfile.specs.Tables.{townOf}
 use Rattle.townfile.specs.Load.{Counts, roomyTables, loadAnswer}
 
@@ -65,7 +65,7 @@ pub record EarliestAt (N : Net) (source departure j tick : ℕ) : Type 0 where
 -- lies in the day, and the answer is the earliest arrival.
 pub record Answers (text : List ℕ) (source departure destination tick : ℕ) : Type 0 where
   pub town : Town
-  pub described : Describes text town
+  pub described : DescribesTown text town
   pub source-below : source < town .junctions
   pub departure-below : departure < day
   pub destination-below : destination < town .junctions

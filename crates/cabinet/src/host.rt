@@ -1,7 +1,5 @@
 // Host question: the destination's label in the town that a text describes, or a refusal's code.
 ghost use mathlib.Core.Path.{_≡_};
-ghost use Prim.Native.Nat.{_≤_};
-ghost use Rattle.model.specs.Limits.{maxArcs};
 ghost use Rattle.townfile.specs.Load.{counts, LongEnough, networkAt};
 ghost use Rattle.townfile.specs.Lent.{lentTables, tablesIn};
 ghost use Rattle.loading.specs.Loaded.{readingOf};
@@ -54,21 +52,19 @@ fn route_in_tables(
     tails: &[u16],
     heads: &[u16],
     lengths: &[u32],
+    holds: &[u16],
     speeds: &[u8],
     source: u32,
     departure: u32,
     destination: u32,
 ) -> Routed
-    requires { ⌜ arcs ≤ maxArcs ⌝ }
-    requires { ⌜ LongEnough (counts junctions intervals arcs) (tablesIn fences tails heads lengths speeds) ⌝ }
+    requires { ⌜ LongEnough (counts junctions intervals arcs) (tablesIn fences tails heads lengths holds speeds) ⌝ }
     ensures answer { λ r. ⌜ outcomeOf r ≡
-        routeAnswer (networkAt (counts junctions intervals arcs) (lentTables fences tails heads lengths speeds)) source departure destination hostList ⌝ }
+        routeAnswer (networkAt (counts junctions intervals arcs) (lentTables fences tails heads lengths holds speeds)) source departure destination hostList ⌝ }
     ensures arrival { λ r. ⌜ arrivalOf r ≡
-        routeArrival (networkAt (counts junctions intervals arcs) (lentTables fences tails heads lengths speeds)) source departure destination hostList ⌝ }
+        routeArrival (networkAt (counts junctions intervals arcs) (lentTables fences tails heads lengths holds speeds)) source departure destination hostList ⌝ }
 {
     let speed_count = arcs * intervals;
-    // Town files have hold 0.
-    let holds = [0u16; MAX_ARCS];
     let mut list = [0u16; MAX_JUNCTIONS];
     route(
         junctions,
@@ -99,6 +95,7 @@ pub extern "C" fn cabinet_host_question(
     let mut tails = [0u16; MAX_ARCS];
     let mut heads = [0u16; MAX_ARCS];
     let mut lengths = [0u32; MAX_ARCS];
+    let mut holds = [0u16; MAX_ARCS];
     let mut speeds = [0u8; MAX_SPEEDS];
     let loaded = load(
         text,
@@ -106,6 +103,7 @@ pub extern "C" fn cabinet_host_question(
         &mut tails,
         &mut heads,
         &mut lengths,
+        &mut holds,
         &mut speeds,
     );
     let Loaded::Counts {
@@ -124,6 +122,7 @@ pub extern "C" fn cabinet_host_question(
         &tails,
         &heads,
         &lengths,
+        &holds,
         &speeds,
         source,
         departure,

@@ -2,6 +2,7 @@
 use Prim.Native.Nat.{ℕ, _+_, _≤_}
 use mathlib.Core.Path.{_≡_}
 use mathlib.Core.Logic.{inl, inr}
+use mathlib.Core.Bool.{Bool}
 use mathlib.Core.List.{List}
 use native.Mathlib.Omega.{arith}
 use lib.ListN.{length}
@@ -20,10 +21,10 @@ pub record CountsFit (reply : Counts) : Type 0 where
   pub arcs-fit : reply .arcs ≤ maxArcs
 
 pub counts-fit : (text : List ℕ) (lent : Tables) {reply : Counts} → Bytes text → loadAnswer text lent ≡ accepted reply → CountsFit reply
-counts-fit text lent {reply} bytes e = let found = load-accepts-when-described text bytes lent reply .0 e in go (found .0) (found .1) (found .3)
+counts-fit text lent {reply} bytes e = let found = load-accepts-when-described text bytes lent reply .0 e in go (found .0) (found .1) (found .2) (found .4)
   where
-    go : (T : Town) → Describes text T → reply ≡ countsOfTown T → CountsFit reply
-    go T described counted =
+    go : (held : Bool) (T : Town) → Describes text held T → reply ≡ countsOfTown T → CountsFit reply
+    go held T described counted =
         let kept = described .kept .network-accepted in
         rw counted (record { junctions-fit = kept .junctions-fit; intervals-fit = kept .intervals-fit; arcs-fit = kept .arcs-fit })
 

@@ -28,6 +28,11 @@ abbrev pub loadCode : Reading Counts → ℕ
 loadCode (refusedAt number line) = 2 ^ 63 + number * 2 ^ 32 + line
 loadCode (accepted reply) = reply .junctions + reply .intervals * 2 ^ 16 + reply .arcs * 2 ^ 32
 
+-- The converters: the length of the result, or 2^63 with the refusal's number and line.
+abbrev pub lengthCode : Reading ℕ → ℕ
+lengthCode (refusedAt number line) = 2 ^ 63 + number * 2 ^ 32 + line
+lengthCode (accepted reply) = reply
+
 -- Name: where it starts, and its length. 0 says that there is none.
 abbrev pub placeCode : Part → ℕ
 placeCode place = place .start * 2 ^ 32 + place .length

@@ -13,7 +13,7 @@ use lib.Seq.{drop-cons, getD-drop, drop-drop, drop-length}
 use borrow.Author.Tests.{eq-eqb, ne-eqb}
 use Rattle.model.proofs.Tests.{eqb-cases}
 use Rattle.townfile.specs.Bytes.{lineFeed, space, upTo}
-use Rattle.townfile.specs.Lines.{markOf}
+use Rattle.townfile.specs.Lines.{firstTwo}
 use Rattle.fields.specs.Fields.{lineFrom, wordFrom}
 
 module _ (text : List ℕ) (at : ℕ) where
@@ -67,34 +67,34 @@ module _ (text : List ℕ) (at : ℕ) where
     | inr other ↦ rw (other .0, line-goes-on h (other .1)) (sym (ne-eqb (length (getD text at 0 ∷ lineFrom text (at + 1))) 0 (λ e. omega arith)))
   ]
 
-  no-line-no-mark : lineFrom text at ≡ [] → 0 ≡ markOf (lineFrom text at)
-  unfolding markOf
+  no-line-no-mark : lineFrom text at ≡ [] → 0 ≡ firstTwo (lineFrom text at)
+  unfolding firstTwo
   no-line-no-mark e = rw e
 
-  one-byte-no-mark : at < length text → lineFrom text (at + 1) ≡ [] → 0 ≡ markOf (lineFrom text at)
-  unfolding markOf
+  one-byte-no-mark : at < length text → lineFrom text (at + 1) ≡ [] → 0 ≡ firstTwo (lineFrom text at)
+  unfolding firstTwo
   one-byte-no-mark h e = elim (eqb-cases (getD text at 0) lineFeed) [
     | inl here ↦ no-line-no-mark (line-feed-ends h (here .1))
     | inr other ↦ rw (line-goes-on h (other .1), e)
   ]
 
 module _ (text : List ℕ) (at : ℕ) where
-  pub no-first-byte : length text ≤ at → 0 ≡ markOf (lineFrom text at)
+  pub no-first-byte : length text ≤ at → 0 ≡ firstTwo (lineFrom text at)
   no-first-byte h = no-line-no-mark text at (line-ends text at h)
 
-  pub no-second-byte : at < length text → length text ≤ at + 1 → 0 ≡ markOf (lineFrom text at)
+  pub no-second-byte : at < length text → length text ≤ at + 1 → 0 ≡ firstTwo (lineFrom text at)
   no-second-byte h l = one-byte-no-mark text at h (line-ends text (at + 1) l)
 
-  pub first-is-feed : at < length text → getD text at 0 ≡ lineFeed → 0 ≡ markOf (lineFrom text at)
+  pub first-is-feed : at < length text → getD text at 0 ≡ lineFeed → 0 ≡ firstTwo (lineFrom text at)
   first-is-feed h e = no-line-no-mark text at (line-feed-ends text at h e)
 
-  pub second-is-feed : at < length text → at + 1 < length text → getD text (at + 1) 0 ≡ lineFeed → 0 ≡ markOf (lineFrom text at)
+  pub second-is-feed : at < length text → at + 1 < length text → getD text (at + 1) 0 ≡ lineFeed → 0 ≡ firstTwo (lineFrom text at)
   second-is-feed h l e = one-byte-no-mark text at h (line-feed-ends text (at + 1) l e)
 
   pub two-bytes-mark : at < length text → at + 1 < length text → (getD text at 0 ≡ lineFeed → ⊥) → (getD text (at + 1) 0 ≡ lineFeed → ⊥) →
-      getD text at 0 * 256 + getD text (at + 1) 0 ≡ markOf (lineFrom text at)
-  unfolding markOf
-  two-bytes-mark h l e f = rw (line-goes-on text at h e, line-goes-on text (at + 1) l f, markOf)
+      getD text at 0 * 256 + getD text (at + 1) 0 ≡ firstTwo (lineFrom text at)
+  unfolding firstTwo
+  two-bytes-mark h l e f = rw (line-goes-on text at h e, line-goes-on text (at + 1) l f, firstTwo)
 
   -- ---- Where the line ends
 

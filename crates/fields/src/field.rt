@@ -3,7 +3,7 @@ ghost use mathlib.Core.Path.{_≡_};
 ghost use Prim.Native.Nat.{_+_, _*_};
 ghost use lib.Dec.{eqb};
 ghost use lib.ListN.{length};
-ghost use Rattle.townfile.specs.Lines.{markOf};
+ghost use Rattle.townfile.specs.Lines.{firstTwo};
 ghost use Rattle.fields.specs.Fields.{lineFrom, fieldAt, printableRest, nameRest, nameAt};
 ghost use Rattle.fields.specs.code.Digits.{justZero, numberFrom};
 use townfile::limit::MAX_NAME;
@@ -54,7 +54,7 @@ fn mark_of(first: u8, second: u8) -> u16
 
 // The two bytes that begin a line, as one number.
 pub fn mark_at(text: &[u8], at: usize) -> u16
-    ensures { λ r. ⌜ r ≡ markOf (lineFrom (now (text .entry)) at) ⌝ }
+    ensures { λ r. ⌜ r ≡ firstTwo (lineFrom (now (text .entry)) at) ⌝ }
 {
     if text.len() <= at {
         return NONE;

@@ -1,5 +1,5 @@
-// Bytes, numbers and refusals put into a buffer from a place on. Each answers the place behind what it puts. A byte for which the
-// buffer has no room is left out.
+// Bytes, numbers and refusals put into a buffer from a place on. Each answers the place behind what it puts. A byte or a text
+// for which the buffer has no room is left out.
 ghost use mathlib.Core.List.{[], _∷_};
 ghost use Rattle.refusals.specs.Refusals.{numberOf};
 ghost use Rattle.formatting.specs.Digits.{digitsOf};
@@ -21,13 +21,18 @@ pub fn put_byte(output: &mut [u8], at: usize, byte: u8) -> usize
 pub fn put_text(output: &mut [u8], at: usize, text: &[u8]) -> usize
     ensures { λ r. ⌜ PutIfRoom (now (text .entry)) at (now (output .entry)) (now (output .exit)) r ⌝ }
 {
-    let mut end = at;
+    if output.len() < at {
+        return at;
+    }
+    if output.len() - at < text.len() {
+        return at;
+    }
     let mut i = 0;
     while i < text.len() {
-        end = put_byte(output, end, text[i]);
+        output[at + i] = text[i];
         i += 1;
     }
-    end
+    at + i
 }
 
 // The last digit stands behind those of the number's tenth.

@@ -1,31 +1,31 @@
 -- A text without fault fills tables that are long enough: each of its lines keeps the form and the limits that the progress at that
 -- line asks, and once the town's line is read the intervals are those of the end.
 use Prim.Native.Nat.{ℕ, zero, suc, _+_, _-_, _≤_, _<_}
-use mathlib.Core.Path.{_≡_, refl, sym, _∙_}
+use mathlib.Core.Path.{_≡_, refl, sym, ap, _∙_}
 use mathlib.Core.Bool.{Bool, true, false, cond, _&&_}
 use mathlib.Core.Logic.{inl, inr}
 use mathlib.Core.List.{List, [], _∷_}
 use native.Mathlib.Omega.{arith}
 use lib.Dec.{leb, ltb, eqb}
-use lib.ListN.{length, getD, drop, length-append}
+use lib.ListN.{length, getD, take, drop, length-append}
 use lib.Seq.{getD-append-add}
 use borrow.Author.Tests.{not-false, ltb-true, leb-true, eqb-true, ne-eqb}
-use Rattle.model.specs.Limits.{maxArcs, maxIntervals, maxJunctions}
+use Rattle.model.specs.Limits.{maxArcs, maxHold, maxIntervals, maxJunctions}
 use Rattle.model.specs.NetworkRules.{junctionsKeep}
-use Rattle.model.specs.Rules.{Outcome, refused, replied, every, lengthKeeps, speedKeeps}
+use Rattle.model.specs.Rules.{Outcome, refused, replied, every, lengthKeeps, speedKeeps, holdKeeps}
 use Rattle.model.proofs.Rules.{true-both, kept-replies, replies-kept}
 use Rattle.model.proofs.Tests.{ltb-cases}
 use Rattle.townfile.specs.Bytes.{lineFeed, pieces}
 use Rattle.townfile.specs.Grammar.{Bytes, Each, joined}
-use Rattle.townfile.specs.Lines.{markTN, markFN, markAR, markOf, markAlone, numbersOf, lineRules, lineRead, lineAnswer}
-use Rattle.townfile.specs.Lines.{known, inTurn, numbersKeep, formKeeps, endsDiffer, valuesKeep}
+use Rattle.townfile.specs.Lines.{markTN, markFN, markAR, firstTwo, markOf, markAlone, numbersOf, lineRules, lineRead, lineAnswer}
+use Rattle.townfile.specs.Lines.{known, inTurn, arcFields, numbersKeep, formKeeps, endsDiffer, valuesKeep}
 use Rattle.townfile.specs.FirstFault.{Reading, refusedAt, accepted, start, atEnd, onward, linesFrom, firstFault}
 use Rattle.townfile.specs.Tables.{marked}
 use Rattle.townfile.specs.Load.{Tables, countsOf, tooShort, loadAnswer}
 use Rattle.townfile.specs.declared.progress.Progress.{Progress}
 use Rattle.townfile.specs.LineFaults.{Known, town-mark, fences-mark, junction-mark, arc-mark, comment-mark}
 use Rattle.townfile.proofs.Marks.{known-mark}
-use Rattle.townfile.proofs.Described.{described-town}
+use Rattle.townfile.proofs.Described.{described-intervals, described-town}
 use Rattle.townfile.proofs.Load.{load-accepts-when-described}
 use Rattle.townfile.proofs.Pieces.{upTo-has-none}
 use Rattle.fields.specs.Fields.{lineFrom}
@@ -35,8 +35,8 @@ use Rattle.fields.proofs.LineFrom.{line-at}
 -- ---- One line
 
 -- A progress at which the town's line is read.
-abbrev Settled : Progress → ℕ → Type 0
-Settled p intervals = 1 ≤ p .turn → p .intervals ≡ intervals
+abbrev Settled : Progress → ℕ → Bool → Type 0
+Settled p intervals held = 1 ≤ p .turn → (p .intervals ≡ intervals) × (p .held ≡ held)
 
 -- Once the town's line is read, the junctions keep their limit.
 abbrev Limited : Progress → Type 0
@@ -63,10 +63,10 @@ line-keeps p q line e =
       cc,
     )
 
-record LinesFill (p : Progress) (intervals : ℕ) (lines : List (List ℕ)) : Type 0 where
-  settled : Settled p intervals
+record LinesFill (p : Progress) (intervals : ℕ) (held : Bool) (lines : List (List ℕ)) : Type 0 where
+  settled : Settled p intervals held
   fences-fill : Each (FencesLine intervals) (marked markFN lines)
-  arcs-fill : Each (ArcLine intervals) (marked markAR lines)
+  arcs-fill : Each (ArcLine intervals held) (marked markAR lines)
 
 module _ (p : Progress) (line : List ℕ) (keeps : LineKeeps p line) where
   fences-line : markOf line ≡ markFN → FencesLine (p .intervals) line
@@ -75,18 +75,20 @@ module _ (p : Progress) (line : List ℕ) (keeps : LineKeeps p line) where
       let form = true-both (markAlone line) (numbersKeep (p .intervals) line) (rw is at (keeps .form)) in
       record { alone = form .0; form = form .1 }
 
-  arc-line : Limited p → 1 ≤ p .turn → markOf line ≡ markAR → ArcLine (p .intervals) line
+  arc-line : Limited p → 1 ≤ p .turn → markOf line ≡ markAR → ArcLine (p .intervals) (p .held) line
   unfolding formKeeps valuesKeep
   arc-line limited turn is =
-      let form = true-both (markAlone line) (numbersKeep (3 + p .intervals) line) (rw is at (keeps .form)) in
+      let form = true-both (markAlone line) (numbersKeep (arcFields p) line) (rw is at (keeps .form)) in
       let numbers = numbersOf line in
       let tail = getD numbers 0 0 in
       let head = getD numbers 1 0 in
       let differ = endsDiffer (p .junctions) tail head in
       let metres = lengthKeeps (getD numbers 2 0) in
-      let slow = every speedKeeps (drop 3 numbers) in
-      let few = true-both (differ && metres && slow) (ltb (p .arcs) maxArcs) (rw is at (keeps .values)) in
-      let speeds = true-both (differ && metres) slow (few .0) in
+      let slow = every speedKeeps (take (p .intervals) (drop 3 numbers)) in
+      let hold = getD (drop 3 numbers) (p .intervals) 0 in
+      let few = true-both (differ && metres && slow && holdKeeps hold) (ltb (p .arcs) maxArcs) (rw is at (keeps .values)) in
+      let held = true-both (differ && metres && slow) (holdKeeps hold) (few .0) in
+      let speeds = true-both (differ && metres) slow (held .0) in
       let ends = true-both (ltb tail (p .junctions) && ltb head (p .junctions)) _ (true-both differ metres (speeds .0) .0) in
       let both = true-both (ltb tail (p .junctions)) (ltb head (p .junctions)) (ends .0) in
       record {
@@ -95,6 +97,7 @@ module _ (p : Progress) (line : List ℕ) (keeps : LineKeeps p line) where
         tail-fits = omega (arith, limited turn, ltb-true tail (p .junctions) (both .0));
         head-fits = omega (arith, limited turn, ltb-true head (p .junctions) (both .1));
         speeds-fit = speeds .1;
+        hold-fits = omega (arith, leb-true hold maxHold (held .1));
       }
 
   town-limited : markOf line ≡ markTN → getD (numbersOf line) 0 0 ≤ maxJunctions
@@ -106,11 +109,12 @@ module _ (p : Progress) (line : List ℕ) (keeps : LineKeeps p line) where
       leb-true junctions maxJunctions (true-both (ltb 0 junctions) (leb junctions maxJunctions) (true-both (junctionsKeep junctions) (ltb 0 intervals) (some .0) .0) .1)
 
   -- The line in front of others.
-  with-line : (intervals : ℕ) (lines : List (List ℕ)) → Limited p → (Limited (lineRead p line) → LinesFill (lineRead p line) intervals lines) → LinesFill p intervals (line ∷ lines)
+  with-line : (intervals : ℕ) (held : Bool) (lines : List (List ℕ)) → Limited p → (Limited (lineRead p line) → LinesFill (lineRead p line) intervals held lines) →
+      LinesFill p intervals held (line ∷ lines)
   unfolding lineRead valuesKeep marked Each
-  with-line intervals lines limited later = go (keeps .marked-so)
+  with-line intervals held lines limited later = go (keeps .marked-so)
     where
-      go : Known (markOf line) → LinesFill p intervals (line ∷ lines)
+      go : Known (markOf line) → LinesFill p intervals held (line ∷ lines)
       go (town-mark is) =
           let turn = eqb-true (p .turn) 0 (rw is at (keeps .in-turn)) in
           let rest = (rw is at later) (λ h. town-limited is) in
@@ -119,7 +123,7 @@ module _ (p : Progress) (line : List ℕ) (keeps : LineKeeps p line) where
           let turn = eqb-true (p .turn) 1 (rw is at (keeps .in-turn)) in
           let rest = (rw is at later) (λ h. limited (omega arith)) in
           let same = rest .settled (omega arith) in
-          record { settled = λ h. same; fences-fill = rw is (rw same at (fences-line is), rest .fences-fill); arcs-fill = rw is (rest .arcs-fill) }
+          record { settled = λ h. same; fences-fill = rw is (rw (same .0) at (fences-line is), rest .fences-fill); arcs-fill = rw is (rest .arcs-fill) }
       go (junction-mark is) =
           let rest = (rw is at later) limited in
           record { settled = rest .settled; fences-fill = rw is (rest .fences-fill); arcs-fill = rw is (rest .arcs-fill) }
@@ -127,7 +131,7 @@ module _ (p : Progress) (line : List ℕ) (keeps : LineKeeps p line) where
           let turn = leb-true 2 (p .turn) (rw is at (keeps .in-turn)) in
           let rest = (rw is at later) (λ h. limited (omega arith)) in
           let same = rest .settled (omega arith) in
-          record { settled = λ h. same; fences-fill = rw is (rest .fences-fill); arcs-fill = rw is (rw same at (arc-line limited (omega arith) is), rest .arcs-fill) }
+          record { settled = λ h. same; fences-fill = rw is (rest .fences-fill); arcs-fill = rw is (rw (same .0, same .1) at (arc-line limited (omega arith) is), rest .arcs-fill) }
       go (comment-mark is) =
           let rest = (rw is at later) limited in
           record { settled = rest .settled; fences-fill = rw is (rest .fences-fill); arcs-fill = rw is (rest .arcs-fill) }
@@ -138,11 +142,14 @@ not-refused : (test : Bool) (fault line : ℕ) (rest : Reading Progress) (p : Pr
 not-refused true fault line rest p e = absurd (let z : _≡_ {A = ℕ} 0 1 = cc in omega arith)
 not-refused false fault line rest p e = e
 
-ended : (p q : Progress) (number : ℕ) → atEnd p number ≡ accepted q → p .intervals ≡ q .intervals
-ended p q number e = let same : accepted p ≡ accepted q = not-refused (ltb (p .turn) 2) 27 number (accepted p) q e in cc
+ended : (p q : Progress) (number : ℕ) → atEnd p number ≡ accepted q → (p .intervals ≡ q .intervals) × (p .held ≡ q .held)
+ended p q number e =
+    let same : accepted p ≡ accepted q = not-refused (ltb (p .turn) 2) 27 number (accepted p) q e in
+    let is : p ≡ q = cc in
+    (ap (λ p. p .intervals) is, ap (λ p. p .held) is)
 
-lines-fill : (p q : Progress) (number : ℕ) (lines : List (List ℕ)) → Limited p → linesFrom p number lines ≡ accepted q → LinesFill p (q .intervals) lines
-unfolding linesFrom marked markOf Each
+lines-fill : (p q : Progress) (number : ℕ) (lines : List (List ℕ)) → Limited p → linesFrom p number lines ≡ accepted q → LinesFill p (q .intervals) (q .held) lines
+unfolding linesFrom marked markOf firstTwo Each
 lines-fill p q number [] limited e = record { settled = λ h. ended p q number e; fences-fill = tt; arcs-fill = tt }
 lines-fill p q number ([] ∷ []) limited e = record { settled = λ h. ended p q number e; fences-fill = tt; arcs-fill = tt }
 lines-fill p q number ((byte ∷ line) ∷ []) limited e =
@@ -152,12 +159,12 @@ lines-fill p q number ((byte ∷ line) ∷ []) limited e =
 lines-fill p q number (line ∷ next ∷ lines) limited e = go (lineAnswer p line) refl (λ p′. lines-fill p′ q (suc number) (next ∷ lines)) e
   where
     go : (answer : Outcome Progress) → lineAnswer p line ≡ answer →
-        ((p′ : Progress) → Limited p′ → linesFrom p′ (suc number) (next ∷ lines) ≡ accepted q → LinesFill p′ (q .intervals) (next ∷ lines)) →
-        onward answer number (λ p′. linesFrom p′ (suc number) (next ∷ lines)) ≡ accepted q → LinesFill p (q .intervals) (line ∷ next ∷ lines)
+        ((p′ : Progress) → Limited p′ → linesFrom p′ (suc number) (next ∷ lines) ≡ accepted q → LinesFill p′ (q .intervals) (q .held) (next ∷ lines)) →
+        onward answer number (λ p′. linesFrom p′ (suc number) (next ∷ lines)) ≡ accepted q → LinesFill p (q .intervals) (q .held) (line ∷ next ∷ lines)
     go (refused fault) a later e = absurd (let z : _≡_ {A = ℕ} 0 1 = cc in omega arith)
     go (replied p′) a later e =
         let keeps = line-keeps p p′ line a in
-        with-line p line (keeps .0) (q .intervals) (next ∷ lines) limited (λ h. later (lineRead p line) h (rw (keeps .1) at e))
+        with-line p line (keeps .0) (q .intervals) (q .held) (next ∷ lines) limited (λ h. later (lineRead p line) h (rw (keeps .1) at e))
 
 -- ---- The text
 
@@ -183,23 +190,24 @@ lines-end lines at h = elim (ltb-cases (at + length (lineFrom (joined lines) at)
 ]
 
 pub accepted-fillable : (text : List ℕ) → Bytes text → (p : Progress) → firstFault text ≡ accepted p → (lent : Tables) → tooShort (countsOf p) lent ≡ false →
-    Fillable (p .intervals) text (lent .fences) (lent .tails) (lent .heads) (lent .lengths) (lent .speeds)
+    Fillable (p .intervals) (p .held) text (lent .fences) (lent .tails) (lent .heads) (lent .lengths) (lent .holds) (lent .speeds)
 unfolding loadAnswer firstFault
 accepted-fillable text bytes p e lent long =
     let loaded : loadAnswer text lent ≡ accepted (countsOf p) = rw (e, long) in
-    let found = load-accepts-when-described text bytes lent (countsOf p) .0 loaded in
-    let same = described-town (found .1) in
-    let kept = found .1 .kept .network-accepted in
-    let room = found .2 in
+    let (form, T, described, room, counted, _) = load-accepts-when-described text bytes lent (countsOf p) .0 loaded in
+    let same = described-town described in
+    let kept = described .kept .network-accepted in
     let lines = pieces lineFeed text in
     let fills = lines-fill start p 1 lines (λ h. absurd (omega arith)) (not-refused (ltb 65536 (length text)) 20 0 (linesFrom start 1 lines) p e) in
     record {
-      lines-end = rw (found .1 .in-lines) (lines-end (found .1 .lines));
+      intervals-are = described-intervals described ∙ sym (ap (λ counts. counts .intervals) counted);
+      lines-end = rw (described .in-lines) (lines-end (described .lines));
       fences-fill = fills .fences-fill;
       arcs-fill = fills .arcs-fill;
       fences-long = rw same (room .fences-long);
       tails-long = rw same (room .tails-long);
       heads-long = rw same (omega (arith, kept .heads-long, room .heads-long));
       lengths-long = rw same (omega (arith, kept .lengths-long, room .lengths-long));
+      holds-long = rw same (omega (arith, kept .holds-long, room .holds-long));
       speeds-long = rw same (omega (arith, kept .speeds-long, room .speeds-long));
     }

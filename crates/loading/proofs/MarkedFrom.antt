@@ -9,7 +9,7 @@ use lib.ListN.{length, drop, drop-of-length-le}
 use borrow.Author.Tests.{eq-eqb, ne-eqb}
 use Rattle.model.proofs.Tests.{ltb-cases}
 use Rattle.townfile.specs.Bytes.{lineFeed, pieces}
-use Rattle.townfile.specs.Lines.{markOf}
+use Rattle.townfile.specs.Lines.{firstTwo, markOf}
 use Rattle.townfile.specs.Tables.{marked}
 use Rattle.fields.specs.Fields.{lineFrom}
 use Rattle.scanning.proofs.RestLines.{next-lines, last-line}
@@ -19,7 +19,7 @@ markedFrom mark text at = marked mark (pieces lineFeed (drop at text))
 
 module _ (mark : ℕ) (some : mark ≡ 0 → ⊥) (text : List ℕ) where
   pub none-left : (at : ℕ) → length text ≤ at → markedFrom mark text at ≡ []
-  unfolding marked markOf pieces
+  unfolding marked markOf firstTwo pieces
   none-left at h = rw (drop-of-length-le text h, ne-eqb 0 mark (λ e. some (sym e)))
 
   module _ (at : ℕ) where

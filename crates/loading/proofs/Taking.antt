@@ -2,18 +2,19 @@
 -- behind the other, so that storing those left comes to storing all.
 use Prim.Native.Nat.{ℕ, suc, _+_, _-_, _≤_, _<_}
 use mathlib.Core.Path.{_≡_, refl, sym, ap, _∙_}
-use mathlib.Core.Bool.{Bool, true, false}
+use mathlib.Core.Bool.{Bool, true, false, cond, _&&_}
 use mathlib.Core.List.{List, [], _∷_}
 use native.Mathlib.Omega.{arith}
 use lib.Dec.{eqb, eqb·suc-suc}
-use lib.ListN.{length, getD, set, drop, length-set}
-use lib.Seq.{sets}
-use borrow.Author.Tests.{leb-true}
+use lib.ListN.{length, getD, set, take, drop, length-map, length-set}
+use lib.Seq.{sets, take-all, drop-drop}
+use borrow.Author.Tests.{leb-true, eqb-true}
 use Rattle.model.specs.Rules.{every, speedKeeps}
 use Rattle.model.proofs.Rules.{true-both}
 use Rattle.townfile.specs.Bytes.{pieces}
-use Rattle.fields.specs.Fields.{lineFrom, fieldKeeps, fieldsFrom, numbersFrom, filledBy}
-use Rattle.loading.specs.code.Filling.{EndsInside, takenAt, NumbersFill, ArcFills}
+use Rattle.townfile.specs.Numbers.{decimal, numberKeeps}
+use Rattle.fields.specs.Fields.{lineFrom, wordFrom, fieldKeeps, fieldsFrom, numbersFrom, filledBy}
+use Rattle.loading.specs.code.Filling.{EndsInside, takenAt, NumbersFill, Behind, ArcFills}
 use Rattle.loading.specs.declared.fill.NumberTaken.{NumberTaken}
 use Rattle.fields.proofs.FieldsLeft.{FieldRead, kept-field, field-goes, number-goes, word-gone, word-behind, end-behind, no-bytes, unfilled-without-field, unfilled-before-end}
 
@@ -64,81 +65,118 @@ module _ (text : List ℕ) (at : ℕ) where
   unfolding pieces
   no-numbers e = rw e
 
-pub first-within : {text : List ℕ} {at count : ℕ} {taken : NumberTaken} → Taking text at count taken → every speedKeeps (numbersFrom text at) ≡ true →
-    (taken .value ≤ 200) × (every speedKeeps (numbersFrom text (taken .next)) ≡ true)
+  pub none-filled : NumbersFill 0 text at → numbersFrom text at ≡ []
+  none-filled fill = no-numbers (filled-ends (fill .filled))
+
+pub first-within : {text : List ℕ} {at count : ℕ} {taken : NumberTaken} (speeds : ℕ) → Taking text at count taken →
+    every speedKeeps (take (suc speeds) (numbersFrom text at)) ≡ true →
+    (taken .value ≤ 200) × (every speedKeeps (take speeds (numbersFrom text (taken .next))) ≡ true)
 unfolding every
-first-within {text = text} {taken = taken} took within =
-    let both = true-both (speedKeeps (taken .value)) (every speedKeeps (numbersFrom text (taken .next))) (rw (took .number, every) at within) in
+first-within {text = text} {taken = taken} speeds took within =
+    let both = true-both (speedKeeps (taken .value)) (every speedKeeps (take speeds (numbersFrom text (taken .next)))) (rw (took .number, every) at within) in
     (leb-true (taken .value) 200 (both .0), both .1)
 
 -- ---- The numbers of a line, one behind the other
 
--- Of the numbers from a place on, k are stored in a table.
+-- Of the numbers from a place on, k of the first ones are stored in a table, and others follow them.
 pub record Stored (text : List ℕ) (at start count : ℕ) (before : List ℕ) (i k : ℕ) (table : List ℕ) : Type 0 where
   pub few : k ≤ count
-  pub fill : NumbersFill (count - k) text i
+  pub others-fill : (others : ℕ) → NumbersFill (count + others) text at → NumbersFill (count - k + others) text i
   pub same-end : i + length (lineFrom text i) ≡ at + length (lineFrom text at)
-  pub same-table : sets table (start + k) (numbersFrom text i) ≡ sets before start (numbersFrom text at)
+  pub numbers-left : numbersFrom text i ≡ drop k (numbersFrom text at)
+  pub same-table : sets table (start + k) (take (count - k) (numbersFrom text i)) ≡ sets before start (take count (numbersFrom text at))
   pub same-length : length table ≡ length before
 
-pub none-stored : (text : List ℕ) (at start count : ℕ) (table : List ℕ) → NumbersFill count text at → Stored text at start count table at 0 table
-none-stored text at start count table fill =
+pub none-stored : (text : List ℕ) (at start count : ℕ) (table : List ℕ) → Stored text at start count table at 0 table
+none-stored text at start count table =
     let whole : count - 0 ≡ count = omega arith in
     record {
       few = omega arith;
-      fill = rw whole fill;
+      others-fill = λ others fill. rw whole fill;
       same-end = refl;
-      same-table = ap (λ place. sets table place (numbersFrom text at)) (omega arith);
+      numbers-left = refl;
+      same-table = rw whole (ap (λ place. sets table place (take count (numbersFrom text at))) (omega arith));
       same-length = refl;
     }
 
-module _ {text : List ℕ} {at start count : ℕ} {before : List ℕ} {i k : ℕ} {table : List ℕ} (stored : Stored text at start count before i k table) where
-  next-fill : k < count → NumbersFill (suc (count - (k + 1))) text i
-  next-fill h = let left : count - k ≡ suc (count - (k + 1)) = omega arith in rw left at (stored .fill)
+module _ {text : List ℕ} {at start count : ℕ} {before : List ℕ} {i k : ℕ} {table : List ℕ} (others : ℕ) (fill : NumbersFill (count + others) text at)
+    (stored : Stored text at start count before i k table) where
+  next-fill : k < count → NumbersFill (suc (count - (k + 1) + others)) text i
+  next-fill h = let left : count - k + others ≡ suc (count - (k + 1) + others) = omega arith in rw left at (stored .others-fill others fill)
 
   pub next-asked : k < count → (fieldKeeps text i ≡ true) × EndsInside text i
-  next-asked h = number-asked text i (count - (k + 1)) (next-fill h)
+  next-asked h = number-asked text i (count - (k + 1) + others) (next-fill h)
 
-  pub next-taking : k < count → (taken : NumberTaken) → taken ≡ takenAt text i → Taking text i (count - (k + 1)) taken
-  next-taking h taken e = taking text i (count - (k + 1)) taken e (next-fill h)
+  pub next-taking : k < count → (taken : NumberTaken) → taken ≡ takenAt text i → Taking text i (count - (k + 1) + others) taken
+  next-taking h taken e = taking text i (count - (k + 1) + others) taken e (next-fill h)
 
   pub one-stored : k < count → (taken : NumberTaken) → taken ≡ takenAt text i → Stored text at start count before (taken .next) (k + 1) (set table (start + k) (taken .value))
   one-stored h taken e =
       let took = next-taking h taken e in
+      let left : count - k ≡ suc (count - (k + 1)) = omega arith in
+      let behind : numbersFrom text (taken .next) ≡ drop (k + 1) (numbersFrom text at) =
+      ap (drop 1) (sym (took .number) ∙ stored .numbers-left) ∙ drop-drop 1 k (numbersFrom text at) in
       record {
         few = omega arith;
-        fill = took .still-fill;
+        others-fill = λ others fill.
+            let at-next : count - k + others ≡ suc (count - (k + 1) + others) = omega arith in
+            taking text i (count - (k + 1) + others) taken e (rw at-next at (stored .others-fill others fill)) .still-fill;
         same-end = took .same-end ∙ stored .same-end;
-        same-table = ap (λ place. sets (set table (start + k) (taken .value)) place (numbersFrom text (taken .next))) (omega arith) ∙ rw (took .number) at (stored .same-table);
+        numbers-left = behind;
+        same-table = ap (λ place. sets (set table (start + k) (taken .value)) place (take (count - (k + 1)) (numbersFrom text (taken .next)))) (omega arith)
+            ∙ rw (took .number, left) at (stored .same-table);
         same-length = length-set table (start + k) (taken .value) ∙ stored .same-length;
       }
 
-  ended : count ≤ k → lineFrom text i ≡ []
-  ended h = filled-ends text i (ap (λ left. filledBy left text i) (omega arith) ∙ stored .fill .filled)
+module _ {text : List ℕ} {at start count : ℕ} {before : List ℕ} {i k : ℕ} {table : List ℕ} (stored : Stored text at start count before i k table) (least : count ≤ k) where
+  pub all-stored : table ≡ sets before start (take count (numbersFrom text at))
+  all-stored = let none : count - k ≡ 0 = omega arith in rw none at (stored .same-table)
 
-  pub stored-to-end : count ≤ k → i ≡ at + length (lineFrom text at)
-  stored-to-end h = omega (arith, ap length (ended h), stored .same-end)
+  pub behind-stored : Behind count text at i
+  behind-stored =
+      let same : k ≡ count = omega (arith, stored .few) in
+      record {
+        numbers-left = rw same at (stored .numbers-left);
+        others-fill = λ others fill. let none : count - k + others ≡ others = omega arith in rw none at (stored .others-fill others fill);
+        same-end = stored .same-end;
+      }
 
-  pub all-stored : count ≤ k → table ≡ sets before start (numbersFrom text at)
-  all-stored h = rw (no-numbers text i (ended h)) at (stored .same-table)
+-- Numbers that no others follow.
+pub alone : {count : ℕ} {text : List ℕ} {at : ℕ} → NumbersFill count text at → NumbersFill (count + 0) text at
+alone {count} fill = let same : count + 0 ≡ count = omega arith in rw same fill
+
+-- Where nothing follows, the place behind is the line's end.
+pub behind-ends : {text : List ℕ} (at : ℕ) {next : ℕ} → NumbersFill 0 text next → next + length (lineFrom text next) ≡ at + length (lineFrom text at) →
+    next ≡ at + length (lineFrom text at)
+behind-ends {text} at {next} fill same = omega (arith, ap length (filled-ends text next (fill .filled)), same)
+
+pub all-taken : {text : List ℕ} {at count : ℕ} → NumbersFill count text at → take count (numbersFrom text at) ≡ numbersFrom text at
+all-taken {text} {at} {count} fill = take-all count (numbersFrom text at) (omega (arith, fields-counted fill))
+  where
+    fields-counted : NumbersFill count text at → length (numbersFrom text at) ≡ count
+    fields-counted fill =
+        length-map (fieldsFrom text at) decimal
+        ∙ eqb-true (length (fieldsFrom text at)) count
+        (true-both (eqb (length (wordFrom text at)) 0 && every numberKeeps (fieldsFrom text at)) (eqb (length (fieldsFrom text at)) count) (fill .filled) .1)
 
 -- ---- The numbers of an arc
 
-pub record ArcTaken (intervals : ℕ) (text : List ℕ) (at : ℕ) (tail head metres : NumberTaken) : Type 0 where
+pub record ArcTaken (rest : ℕ) (text : List ℕ) (at : ℕ) (tail head metres : NumberTaken) : Type 0 where
   pub tail-is : tail .value ≡ getD (numbersFrom text at) 0 0
   pub head-is : head .value ≡ getD (numbersFrom text at) 1 0
   pub metres-is : metres .value ≡ getD (numbersFrom text at) 2 0
   pub speeds-are : numbersFrom text (metres .next) ≡ drop 3 (numbersFrom text at)
-  pub still-fill : NumbersFill intervals text (metres .next)
+  pub still-fill : NumbersFill rest text (metres .next)
   pub same-end : metres .next + length (lineFrom text (metres .next)) ≡ at + length (lineFrom text at)
 
-pub arc-starts : {intervals : ℕ} {text : List ℕ} {at : ℕ} → ArcFills intervals text at → NumbersFill (suc (suc (suc intervals))) text at
-arc-starts {intervals} fills = let three : 3 + intervals ≡ suc (suc (suc intervals)) = omega arith in rw three at (fills .numbers-fill)
+pub arc-starts : {intervals : ℕ} {held : Bool} {text : List ℕ} {at : ℕ} → ArcFills intervals held text at → NumbersFill (suc (suc (suc (intervals + cond held 1 0)))) text at
+arc-starts {intervals} {held} fills =
+    let three : 3 + intervals + cond held 1 0 ≡ suc (suc (suc (intervals + cond held 1 0))) = omega arith in rw three at (fills .numbers-fill)
 
-pub arc-taken : (intervals : ℕ) (text : List ℕ) (at : ℕ) (tail head metres : NumberTaken) →
-    Taking text at (suc (suc intervals)) tail → Taking text (tail .next) (suc intervals) head → Taking text (head .next) intervals metres →
-    ArcTaken intervals text at tail head metres
-arc-taken intervals text at tail head metres first second third =
+pub arc-taken : (rest : ℕ) (text : List ℕ) (at : ℕ) (tail head metres : NumberTaken) →
+    Taking text at (suc (suc rest)) tail → Taking text (tail .next) (suc rest) head → Taking text (head .next) rest metres →
+    ArcTaken rest text at tail head metres
+arc-taken rest text at tail head metres first second third =
     let numbers : numbersFrom text at ≡ tail .value ∷ head .value ∷ metres .value ∷ numbersFrom text (metres .next) = rw (first .number, second .number, third .number) in
     record {
       tail-is = rw numbers;

@@ -44,19 +44,23 @@ fn lacks_room(
     tails: usize,
     heads: usize,
     lengths: usize,
+    holds: usize,
     speeds: usize,
 ) -> bool
-    ensures { λ r. ⌜ r ≡ lacksRoom intervals arcs fences tails heads lengths speeds ⌝ }
+    ensures { λ r. ⌜ r ≡ lacksRoom intervals arcs fences tails heads lengths holds speeds ⌝ }
 {
     let fence_count = intervals as u64;
     let arc_count = arcs as u64;
     either(
         either(
             either(
-                either(exceeds(fence_count, fences), exceeds(arc_count, tails)),
-                exceeds(arc_count, heads),
+                either(
+                    either(exceeds(fence_count, fences), exceeds(arc_count, tails)),
+                    exceeds(arc_count, heads),
+                ),
+                exceeds(arc_count, lengths),
             ),
-            exceeds(arc_count, lengths),
+            exceeds(arc_count, holds),
         ),
         exceeds(arc_count * fence_count, speeds),
     )
@@ -68,10 +72,12 @@ pub fn load(
     tails: &mut [u16],
     heads: &mut [u16],
     lengths: &mut [u32],
+    holds: &mut [u16],
     speeds: &mut [u8],
 ) -> Loaded
-    ensures answer { λ r. ⌜ readingOf r ≡ loadAnswer (now (text .entry)) (lentTables fences tails heads lengths speeds) ⌝ }
-    ensures tables { λ _. ⌜ leftTables fences tails heads lengths speeds ≡ tablesAfter (now (text .entry)) (lentTables fences tails heads lengths speeds) ⌝ }
+    ensures answer { λ r. ⌜ readingOf r ≡ loadAnswer (now (text .entry)) (lentTables fences tails heads lengths holds speeds) ⌝ }
+    ensures tables { λ _. ⌜ leftTables fences tails heads lengths holds speeds ≡
+        tablesAfter (now (text .entry)) (lentTables fences tails heads lengths holds speeds) ⌝ }
 {
     match scan(text) {
         Scanned::Refused { refusal, line } => Loaded::Refused { refusal, line },
@@ -83,6 +89,7 @@ pub fn load(
                 tails.len(),
                 heads.len(),
                 lengths.len(),
+                holds.len(),
                 speeds.len(),
             ) {
                 return Loaded::Refused {
@@ -93,10 +100,12 @@ pub fn load(
             fill(
                 text,
                 progress.intervals as usize,
+                progress.held,
                 fences,
                 tails,
                 heads,
                 lengths,
+                holds,
                 speeds,
             );
             Loaded::Counts {

@@ -14,7 +14,7 @@ use Rattle.model.proofs.Rules.{true-both, replies-kept}
 use Rattle.model.proofs.Tests.{ltb-cases}
 use Rattle.townfile.specs.Bytes.{lineFeed, space, upTo, pieces}
 use Rattle.townfile.specs.Numbers.{decimal, numberKeeps}
-use Rattle.townfile.specs.Lines.{markJN, markOf, markAlone, numberField, nameField, nameKeeps, formKeeps, lineRules, lineRead, lineAnswer}
+use Rattle.townfile.specs.Lines.{markJN, firstTwo, markOf, markAlone, numberField, nameField, nameKeeps, formKeeps, lineRules, lineRead, lineAnswer}
 use Rattle.townfile.specs.Grammar.{Each}
 use Rattle.townfile.specs.FirstFault.{refusedAt, accepted, start, onward, linesFrom, firstFault}
 use Rattle.townfile.specs.Name.{part, namesIt, placeAmong, namePlace}
@@ -31,7 +31,7 @@ use Rattle.scanning.proofs.RestLines.{lines-behind, next-lines, last-line}
 -- ---- A text without fault
 
 empty-names : LineNames []
-unfolding markOf
+unfolding markOf firstTwo
 empty-names = record { alone = λ e. absurd (omega arith); number = λ e. absurd (omega arith); name = λ e. absurd (omega arith) }
 
 form-names : (p : Progress) (line : List ℕ) → formKeeps p line ≡ true → LineNames line
@@ -154,12 +154,12 @@ module _ {text : List ℕ} {junction at : ℕ} (left : NamesLeft text junction a
   line-named = (rw (lines-behind text at) at (left .lines-named)) .0
 
   pub none-left : length text ≤ at → part 0 0 ≡ placeAmong junction 0 (pieces lineFeed text)
-  unfolding pieces placeAmong markOf
+  unfolding pieces placeAmong markOf firstTwo
   none-left h = rw (drop-of-length-le text h) at (left .same-place)
 
   module _ {end : ℕ} (ends : end ≡ at + length (lineFrom text at)) where
     pub line-passed : nameStart text at junction ≡ Other → NamesLeft text junction (end + 1)
-    unfolding Each pieces placeAmong markOf
+    unfolding Each pieces placeAmong markOf firstTwo
     line-passed e =
         let other : namesIt junction (lineFrom text at) ≡ false = start-other text at junction e in
         elim (ltb-cases end (length text)) [

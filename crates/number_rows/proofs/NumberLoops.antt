@@ -2,19 +2,20 @@
 -- of them come to. A number is tested alone, or by what stands before it: then the test of the numbers left changes with each.
 use Prim.Native.Nat.{ℕ, zero, suc, _+_, _-_, _≤_, _<_}
 use mathlib.Core.Path.{_≡_, refl, sym, ap, _∙_}
-use mathlib.Core.Bool.{Bool, true, false, cond, _&&_}
+use mathlib.Core.Bool.{Bool, true, false, cond, _&&_, and-assoc}
 use mathlib.Core.List.{List, [], _∷_}
 use native.Mathlib.Omega.{arith}
 use lib.Dec.{eqb, eqb·suc-zero}
-use lib.ListN.{length}
+use lib.ListN.{length, getD, take}
 use borrow.Author.Tests.{ne-eqb}
-use Rattle.model.specs.Rules.{every, riseFrom, fencesKeep}
+use Rattle.model.specs.Rules.{every, riseFrom, fencesKeep, speedKeeps, holdKeeps}
 use Rattle.townfile.specs.Bytes.{pieces, upTo}
 use Rattle.fields.specs.Fields.{lineFrom, fieldAt, numbersFrom}
 use Rattle.fields.specs.declared.field.Field.the-variants as field
 use Rattle.fields.proofs.FieldsLeft.{field-read, no-bytes}
-use Rattle.number_rows.specs.NumbersRead.{numbersRead}
+use Rattle.number_rows.specs.NumbersRead.{numbersRead, rowKeeps}
 use Rattle.number_rows.specs.code.Fences.{fenceKeeps}
+use Rattle.number_rows.specs.declared.numbers.Numbers.{Numbers}
 use Rattle.number_rows.specs.declared.numbers.Numbers.the-variants.{Malformed}
 use Rattle.number_rows.proofs.NumbersLeft.{numbers-same, numbers-go-on, numbers-malformed, numbers-not-ended}
 
@@ -101,3 +102,45 @@ pub no-fence : (k before : ℕ) → fencesLeftKeep k before [] ≡ true
 unfolding riseFrom fencesKeep
 no-fence zero before = refl
 no-fence (suc k) before = rw (eqb·suc-zero k)
+
+-- ---- The row of an arc
+
+-- A speed is tested in front of those behind it and of the hold.
+pub row-next : (count k : ℕ) → k < count → (speed : ℕ) (numbers : List ℕ) →
+    rowKeeps (count - k) (speed ∷ numbers) ≡ (speedKeeps speed && rowKeeps (count - (k + 1)) numbers)
+unfolding every
+row-next count k more speed numbers =
+    let next : count - k ≡ suc (count - (k + 1)) = omega arith in
+    rw next (and-assoc (speedKeeps speed) (every speedKeeps (take (count - (k + 1)) numbers)) (holdKeeps (getD numbers (count - (k + 1)) 0)))
+
+module _ (text : List ℕ) (at : ℕ) where
+  pub row-starts : (count numbers : ℕ) → Left (rowKeeps count) text at numbers true (rowKeeps (count - 0)) 0 at
+  row-starts count numbers = let none : count - 0 ≡ count = omega arith in rw none (all-left (rowKeeps count) text at numbers)
+
+  -- Behind the speeds: the hold, where there is one, and the end.
+  module _ (within : Bool) where
+    abbrev ending : List ℕ → Bool
+    ending numbers = within && rowKeeps 0 numbers
+
+    abbrev asked : ℕ → Numbers
+    asked holds = numbersRead ending holds text at
+
+    pub ends-unheld : numbersRead (λ numbers. within) 0 text at ≡ asked 0
+    unfolding every
+    ends-unheld = left-decides (all-left ending text at 0) (omega arith) (flag-alone within)
+
+    pub no-hold : fieldAt text at ≡ field.Malformed → Malformed ≡ asked 1
+    no-hold e = left-malformed (all-left ending text at 1) (omega arith) e
+
+    pub ends-held : {hold next : ℕ} {kept : Bool} → fieldAt text at ≡ field.Number hold next → kept ≡ (within && holdKeeps hold) →
+        numbersRead (λ numbers. kept) 0 text next ≡ asked 1
+    unfolding every
+    ends-held e k = left-decides (left-taken (all-left ending text at 1) (omega arith) e) (omega arith) k
+
+-- Behind all speeds what is left of the row is its end.
+pub row-left : {text : List ℕ} {at count : ℕ} (holds : ℕ) {numbers : ℕ} {within : Bool} {k i : ℕ} → Left (rowKeeps count) text at numbers within (rowKeeps (count - k)) k i →
+    k ≡ count → numbers ≡ count + holds → numbersRead (λ numbers. within && rowKeeps 0 numbers) holds text i ≡ numbersRead (rowKeeps count) numbers text at
+row-left {count = count} holds {numbers} {k = k} left all long =
+    let none : count - k ≡ 0 = omega arith in
+    let rest : numbers - k ≡ holds = omega arith in
+    rw (none, rest) at (left .same)

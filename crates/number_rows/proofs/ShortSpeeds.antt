@@ -2,28 +2,28 @@
 -- feed stand behind each of its numbers is one of fields, and at each place what is left of it comes to what the whole comes to.
 use Prim.Native.Nat.{ℕ, suc, _+_, _-_, _≤_, _<_}
 use mathlib.Core.Path.{_≡_, refl, subst, _∙_}
-use mathlib.Core.Bool.{true}
+use mathlib.Core.Bool.{true, _&&_}
 use mathlib.Core.List.{List, [], _∷_}
 use native.Mathlib.Omega.{arith}
 use lib.ListN.{length, getD}
 use borrow.Author.Tests.{le-leb}
 use Rattle.model.specs.Limits.{maxSpeed}
-use Rattle.model.specs.Rules.{every, speedKeeps}
+use Rattle.model.specs.Rules.{every}
 use Rattle.model.proofs.Rules.{both-true}
-use Rattle.townfile.specs.Bytes.{lineFeed, space, digit}
+use Rattle.townfile.specs.Bytes.{space, digit}
 use Rattle.townfile.specs.Numbers.{decimalFrom, decimal}
 use Rattle.townfile.specs.Grammar.{Number}
 use Rattle.townfile.proofs.Between.{every-between}
 use Rattle.townfile.proofs.NumberForm.{number-keeps}
 use Rattle.fields.specs.Fields.{wordFrom, fieldAt}
+use Rattle.number_rows.specs.NumbersRead.{numbersRead, rowKeeps}
 use Rattle.number_rows.specs.code.ShortSpeeds.{ReadTo, SpeedWord, ShortWord, ShortField, ShortRow}
 use Rattle.fields.specs.declared.field.Field.the-variants as field
 use Rattle.number_rows.specs.declared.speeds.ShortRead.{ShortRead}
 use Rattle.number_rows.specs.declared.speeds.ShortRead.the-variants.{To, Unsure}
-use Rattle.fields.proofs.LineFrom.{line-feed-ends, word-ends, space-ends, gap-begins}
+use Rattle.fields.proofs.LineFrom.{space-ends, gap-begins}
 use Rattle.fields.proofs.Digits.{digit-is, digit-bounds, digit-word}
-use Rattle.number_rows.proofs.NumbersLeft.{numbers-within}
-use Rattle.number_rows.proofs.NumberLoops.{Left, left-goes-on, left-ends}
+use Rattle.number_rows.proofs.NumberLoops.{Left, left-goes-on, row-next}
 
 pub reached-at : (holds : ℕ → Type 0) {read : ShortRead} {end : ℕ} → read ≡ To end → ReadTo holds read → holds end
 reached-at holds e h = subst (ReadTo holds) e h
@@ -121,19 +121,28 @@ field-is text at end inside read e =
 
 -- ---- The row
 
--- What is left of it behind k numbers comes to what the whole comes to, if a word ends there.
+-- What is left of it behind k speeds comes to what the whole comes to, if a word ends there.
 abbrev pub RowLeft : List ℕ → ℕ → ℕ → ℕ → ℕ → Type 0
-RowLeft text at count k i = wordFrom text i ≡ [] → Left (every speedKeeps) text at count true (every speedKeeps) k i
+RowLeft text at count k i =
+    (numbers : ℕ) → count ≤ numbers → wordFrom text i ≡ [] → Left (rowKeeps count) text at numbers true (rowKeeps (count - k)) k i
 
 module _ (text : List ℕ) (at count k i : ℕ) (left : RowLeft text at count k i) (inside : i < length text) where
   pub row-goes-on : k < count → {next : ℕ} → ShortField text i next → RowLeft text at count (k + 1) next
-  unfolding every
-  row-goes-on more {next} read e =
-      let here = left (space-ends text i inside (read .gap)) in
-      left-goes-on here more true (every speedKeeps) (field-is text i next inside read e) refl (λ speeds. rw (read .digits .word e .limit))
+  row-goes-on more {next} read numbers fits e =
+      let here = left numbers fits (space-ends text i inside (read .gap)) in
+      left-goes-on here (omega arith) true (rowKeeps (count - (k + 1))) (field-is text i next inside read e) refl
+      (λ speeds. row-next count k more _ speeds ∙ rw (read .digits .word e .limit))
 
-  pub row-ends : count ≤ k → getD text i 0 ≡ lineFeed → ShortRow text at count i
-  unfolding every
-  row-ends least feed =
-      let ended = line-feed-ends text i inside feed in
-      numbers-within text i {within = true} refl (rw ended) ∙ left-ends (left (word-ends text i ended)) least refl
+  pub row-ends : count ≡ k → ShortRow text at count i
+  row-ends all = record {
+    inside = inside;
+    front = λ numbers fits e.
+        let none : count - k ≡ 0 = omega arith in
+        let left-over : numbers - count ≡ numbers - k = omega arith in
+        rw left-over (rw none at (left numbers fits e .same));
+  }
+
+-- Where a word ends behind the speeds, what is left of the row is its end.
+pub row-behind : {text : List ℕ} {at count end : ℕ} (holds : ℕ) → ShortRow text at count end → wordFrom text end ≡ [] →
+    numbersRead (λ numbers. true && rowKeeps 0 numbers) holds text end ≡ numbersRead (rowKeeps count) (count + holds) text at
+row-behind {count = count} holds row e = let rest : count + holds - count ≡ holds = omega arith in rw rest at (row .front (count + holds) (omega arith) e)

@@ -1,21 +1,22 @@
-// The speeds of an AR line. A row without fault has numbers of at most three digits, so it is first read straight on as such a row,
-// without a look behind each number. That short reading decides nothing but success: any other row is read field by field, which
-// tells what it comes to.
+// The row of an AR line behind its length: the speeds, and in the new form the hold. Speeds without fault have at most three digits, so they
+// are first read straight on as such, without a look behind each number. That short reading decides nothing but success: any other row is
+// read field by field, which tells what it comes to.
 ghost use mathlib.Core.Path.{_≡_};
-ghost use mathlib.Core.Bool.{true};
+ghost use mathlib.Core.Bool.{true, cond, _&&_};
 ghost use mathlib.Core.List.{[], _∷_};
 ghost use Prim.Native.Nat.{_+_, _≤_, _<_};
 ghost use lib.ListN.{length, getD};
-ghost use Rattle.model.specs.Rules.{every, speedKeeps};
+ghost use Rattle.model.specs.Rules.{every};
 ghost use Rattle.townfile.specs.Bytes.{digit};
 ghost use Rattle.townfile.specs.Numbers.{decimal};
-ghost use Rattle.number_rows.specs.NumbersRead.{numbersRead};
+ghost use Rattle.number_rows.specs.NumbersRead.{numbersRead, rowKeeps};
 ghost use Rattle.number_rows.specs.code.ShortSpeeds.{ReadTo, ShortWord, ShortField, ShortRow};
 use crate::limits::both;
 use crate::numbers::Numbers;
 use crate::numbers::numbers_end;
 use fields::field::Field;
 use fields::field::read_field;
+use model::limit::MAX_HOLD;
 use model::limit::MAX_SPEED;
 use townfile::mark::LINE_FEED;
 use townfile::mark::SPACE;
@@ -83,7 +84,7 @@ fn short_speed(text: &[u8], at: usize) -> ShortRead
     }
 }
 
-// The whole row up to its line feed, where the text has bytes enough for the longest one.
+// All speeds of a row, where the text has bytes enough for the longest ones. What stands behind the last one the caller looks at.
 fn short_speeds(text: &[u8], at: usize, count: u32) -> ShortRead
     ensures { λ r. ⌜ ReadTo (ShortRow (now (text .entry)) at count) r ⌝ }
 {
@@ -102,17 +103,29 @@ fn short_speeds(text: &[u8], at: usize, count: u32) -> ShortRead
         i = next;
         k += 1;
     }
-    if text[i] != LINE_FEED {
-        return ShortRead::Unsure;
-    }
     ShortRead::To(i)
+}
+
+// ---- The hold
+
+// What is left of a row behind its speeds: the hold where the file has holds, and the line's end.
+fn row_end(text: &[u8], at: usize, held: bool, within: bool) -> Numbers
+    ensures { λ r. ⌜ r ≡ numbersRead (λ numbers. within && rowKeeps 0 numbers) (cond held 1 0) (now (text .entry)) at ⌝ }
+{
+    if !held {
+        return numbers_end(text, at, within);
+    }
+    let Field::Number { value, next } = read_field(text, at) else {
+        return Numbers::Malformed;
+    };
+    numbers_end(text, next, both(within, value <= MAX_HOLD as u32))
 }
 
 // ---- Field by field
 
 // It goes on after a speed above its limit, since a field of the wrong form counts first.
-fn long_speeds(text: &[u8], at: usize, count: u32) -> Numbers
-    ensures { λ r. ⌜ r ≡ numbersRead (every speedKeeps) count (now (text .entry)) at ⌝ }
+pub fn long_row(text: &[u8], at: usize, count: u32, held: bool) -> Numbers
+    ensures { λ r. ⌜ r ≡ numbersRead (rowKeeps count) (count + cond held 1 0) (now (text .entry)) at ⌝ }
 {
     let mut i = at;
     let mut k = 0u32;
@@ -125,14 +138,21 @@ fn long_speeds(text: &[u8], at: usize, count: u32) -> Numbers
         i = next;
         k += 1;
     }
-    numbers_end(text, i, within)
+    row_end(text, i, held, within)
 }
 
-pub fn speeds_read(text: &[u8], at: usize, count: u32) -> Numbers
-    ensures { λ r. ⌜ r ≡ numbersRead (every speedKeeps) count (now (text .entry)) at ⌝ }
+// The speeds of an arc, and its hold where the file has holds, up to the line's end.
+pub fn row_read(text: &[u8], at: usize, count: u32, held: bool) -> Numbers
+    ensures { λ r. ⌜ r ≡ numbersRead (rowKeeps count) (count + cond held 1 0) (now (text .entry)) at ⌝ }
 {
-    match short_speeds(text, at, count) {
-        ShortRead::To(end) => Numbers::Within(end),
-        ShortRead::Unsure => long_speeds(text, at, count),
+    let ShortRead::To(end) = short_speeds(text, at, count) else {
+        return long_row(text, at, count, held);
+    };
+    // Only where a word ends here were all digits of the last speed read.
+    if text[end] != LINE_FEED {
+        if text[end] != SPACE {
+            return long_row(text, at, count, held);
+        }
     }
+    row_end(text, end, held, true)
 }

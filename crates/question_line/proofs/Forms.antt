@@ -15,7 +15,7 @@ use Rattle.model.proofs.Rules.{true-both, both-true}
 use Rattle.model.proofs.Tests.{eqb-cases}
 use Rattle.townfile.specs.Bytes.{lineFeed, space, upTo}
 use Rattle.townfile.specs.Numbers.{numberKeeps}
-use Rattle.townfile.specs.Lines.{markOf}
+use Rattle.townfile.specs.Lines.{firstTwo}
 use Rattle.townfile.specs.Grammar.{Bytes, Fields}
 use Rattle.townfile.proofs.FieldForm.{upTo-part, pieces-fields, fields-pieces, fields-lack}
 use Rattle.fields.proofs.FieldsLeft.{no-bytes}
@@ -38,7 +38,7 @@ upTo-split separator (byte ∷ bytes) h = elim (eqb-cases byte separator) [
 
 pub record Tested (mark : ℕ) (text : List ℕ) : Type 0 where
   pub ended : length (firstLine text) < length text
-  pub is-mark : markOf (firstLine text) ≡ mark
+  pub is-mark : firstTwo (firstLine text) ≡ mark
   pub no-word : upTo space (behindMark text) ≡ []
   pub all-numbers : every numberKeeps (fieldsIn text) ≡ true
 
@@ -52,7 +52,7 @@ tested mark text e =
     let fields = true-both alone (every numberKeeps (fieldsIn text)) (all .1) in
     record {
       ended = ltb-true (length (firstLine text)) (length text) (begun .0);
-      is-mark = eqb-true (markOf (firstLine text)) mark (true-both (not (eqb mark 0)) (eqb (markOf (firstLine text)) mark) (begun .1) .1);
+      is-mark = eqb-true (firstTwo (firstLine text)) mark (true-both (not (eqb mark 0)) (eqb (firstTwo (firstLine text)) mark) (begun .1) .1);
       no-word = no-bytes (upTo space (behindMark text)) (fields .0);
       all-numbers = fields .1;
     }
@@ -68,14 +68,14 @@ module _ (first second : ℕ) (c : Capital first) (c′ : Capital second) where
   second-no-feed e = omega arith
 
   -- The two bytes of a text of bytes are its mark's.
-  marked-rest : (text : List ℕ) → Bytes text → markOf (firstLine text) ≡ mark → (rest : List ℕ) × (text ≡ first ∷ second ∷ rest)
-  unfolding markOf
+  marked-rest : (text : List ℕ) → Bytes text → firstTwo (firstLine text) ≡ mark → (rest : List ℕ) × (text ≡ first ∷ second ∷ rest)
+  unfolding firstTwo
   marked-rest text bytes e = go (two-bytes text (λ z. omega arith))
     where
       go : TwoBytes text → (rest : List ℕ) × (text ≡ first ∷ second ∷ rest)
       go two =
           let line = line-of-two (two .first) (two .second) (two .rest) (two .first-no-feed) (two .second-no-feed) in
-          let is : two .first * 256 + two .second ≡ mark = rw (two .in-all, line, markOf) at e in
+          let is : two .first * 256 + two .second ≡ mark = rw (two .in-all, line, firstTwo) at e in
           let below : two .second < 256 = rw (two .in-all) at bytes 1 (omega arith) in
           let same-first : two .first ≡ first = omega arith in
           let same-second : two .second ≡ second = omega arith in
@@ -117,15 +117,15 @@ module _ (first second : ℕ) (c : Capital first) (c′ : Capital second) where
     numbers-are = rw written-line (fields-pieces fields .their-values)
 
     written-of-form : ofForm mark written ≡ true
-    unfolding ofForm markOf
+    unfolding ofForm firstTwo
     written-of-form =
         let inside : length (firstLine written) < length written = omega (arith, ap length written-line, length-append bytes (lineFeed ∷ rest)) in
-        let is : markOf (firstLine written) ≡ mark = rw written-line in
+        let is : firstTwo (firstLine written) ≡ mark = rw written-line in
         let some : not (eqb mark 0) ≡ true = rw (ne-eqb mark 0 (λ z. omega arith)) in
         let parted = fields-pieces fields in
         let none : eqb (length (upTo space (behindMark written))) 0 ≡ true = rw (written-line, parted .none-before) in
         both-true
-        (both-true (lt-ltb (length (firstLine written)) (length written) inside) (both-true some (eq-eqb (markOf (firstLine written)) mark is)))
+        (both-true (lt-ltb (length (firstLine written)) (length written) inside) (both-true some (eq-eqb (firstTwo (firstLine written)) mark is)))
         (both-true none (rw written-line (parted .all-numbers)))
 
     written-rest : restOf written ≡ rest

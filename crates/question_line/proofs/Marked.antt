@@ -11,7 +11,7 @@ use borrow.Author.Tests.{eq-eqb, ne-eqb}
 use Rattle.model.specs.Rules.{written}
 use Rattle.model.proofs.Tests.{eqb-cases}
 use Rattle.townfile.specs.Bytes.{lineFeed, upTo}
-use Rattle.townfile.specs.Lines.{markOf}
+use Rattle.townfile.specs.Lines.{firstTwo}
 use Rattle.fields.specs.Fields.{lineFrom, numbersFrom}
 use Rattle.question_line.specs.Line.{firstLine, behindMark, hasMark, ofForm, askedBy, numbersAfter}
 use Rattle.question_line.specs.code.Counting.{onlyNumbers, countedFrom}
@@ -26,8 +26,8 @@ pub record TwoBytes (text : List ℕ) : Type 0 where
   pub second-no-feed : second ≡ lineFeed → ⊥
   pub in-all : text ≡ first ∷ second ∷ rest
 
-pub two-bytes : (text : List ℕ) → (markOf (firstLine text) ≡ 0 → ⊥) → TwoBytes text
-unfolding markOf upTo
+pub two-bytes : (text : List ℕ) → (firstTwo (firstLine text) ≡ 0 → ⊥) → TwoBytes text
+unfolding firstTwo upTo
 two-bytes [] some = absurd (some refl)
 two-bytes (a ∷ []) some = elim (eqb-cases a lineFeed) [
   | inl feed ↦ absurd (some (rw (feed .0)))
@@ -47,7 +47,7 @@ line-of-two a b rest p q = rw (ne-eqb a lineFeed p, ne-eqb b lineFeed q)
 
 -- ---- What the code finds
 
-module _ (text : List ℕ) (some : markOf (firstLine text) ≡ 0 → ⊥) where
+module _ (text : List ℕ) (some : firstTwo (firstLine text) ≡ 0 → ⊥) where
   pub behind-is : behindMark text ≡ lineFrom text 2
   unfolding lineFrom
   behind-is = let two = two-bytes text some in rw (two .in-all, line-of-two (two .first) (two .second) (two .rest) (two .first-no-feed) (two .second-no-feed))
@@ -66,22 +66,22 @@ module _ (mark : ℕ) (text : List ℕ) where
   pub no-mark : mark ≡ 0 → ofForm mark text ≡ false
   no-mark e = not-marked (rw (eq-eqb mark 0 e))
 
-  pub other-mark : (markOf (firstLine text) ≡ mark → ⊥) → ofForm mark text ≡ false
-  other-mark e = not-marked (rw (ne-eqb (markOf (firstLine text)) mark e) (and-false (not (eqb mark 0))))
+  pub other-mark : (firstTwo (firstLine text) ≡ mark → ⊥) → ofForm mark text ≡ false
+  other-mark e = not-marked (rw (ne-eqb (firstTwo (firstLine text)) mark e) (and-false (not (eqb mark 0))))
 
   -- Another form is refused, and changes nothing.
   pub refused : ofForm mark text ≡ false → (table : List ℕ) → (Malformed ≡ askedBy mark text) × (table ≡ numbersAfter mark text table)
   unfolding askedBy numbersAfter
   refused e table = (rw e, rw e)
 
-  module _ (is : markOf (firstLine text) ≡ mark) (some : mark ≡ 0 → ⊥) where
-    line-has : markOf (firstLine text) ≡ 0 → ⊥
+  module _ (is : firstTwo (firstLine text) ≡ mark) (some : mark ≡ 0 → ⊥) where
+    line-has : firstTwo (firstLine text) ≡ 0 → ⊥
     line-has e = some (sym is ∙ e)
 
     form-is : ofForm mark text ≡ (ltb (2 + length (lineFrom text 2)) (length text) && onlyNumbers text 2)
     unfolding ofForm onlyNumbers
     form-is =
-        let marked = eq-eqb (markOf (firstLine text)) mark is in
+        let marked = eq-eqb (firstTwo (firstLine text)) mark is in
         let ended = ltb (2 + length (lineFrom text 2)) (length text) in
         rw (ne-eqb mark 0 some, marked, behind-is text line-has, line-is-longer text line-has, and-true ended)
 

@@ -1,10 +1,10 @@
 -- A text's first fault is the answer, or the town that it describes is asked. Load into tables with room for every town refuses just
 -- that fault, and otherwise the town's network, which Network check accepts, stands at the tables' start.
-use Prim.Native.Nat.{ℕ, _≤_}
+use Prim.Native.Nat.{ℕ}
 use mathlib.Core.Path.{_≡_, refl, sym, ap, _∙_}
+use mathlib.Core.Bool.{Bool}
 use mathlib.Core.List.{List}
 use native.Mathlib.Omega.{arith}
-use Rattle.model.specs.Limits.{maxArcs}
 use Rattle.model.specs.Network.{Network}
 use Rattle.model.specs.NetworkRules.{networkCheck}
 use Rattle.model.specs.Rules.{replied}
@@ -22,7 +22,7 @@ module _ {Reply : Type 0} (answer : Network → Reading Reply) (text : List ℕ)
   unfolding inTown
   answer-faulty fault = rw fault
 
-  pub answer-described : {town : Town} → Describes text town → inTown answer text ≡ answer (networkOf town)
+  pub answer-described : {held : Bool} {town : Town} → Describes text held town → inTown answer text ≡ answer (networkOf town)
   unfolding inTown
   answer-described described = rw (described-faultless described, described-town described)
 
@@ -38,7 +38,6 @@ module _ {Reply : Type 0} (answer : Network → Reading Reply) (text : List ℕ)
 
     -- What the tables then hold is asked.
     pub record TownLoaded (reply : Counts) (held : Tables) : Type 0 where
-      pub few-arcs : reply .arcs ≤ maxArcs
       pub long : LongEnough reply held
       pub checked : networkCheck (networkAt reply held) ≡ replied tt
       pub answers : inTown answer text ≡ answer (networkAt reply held)
@@ -47,10 +46,9 @@ module _ {Reply : Type 0} (answer : Network → Reading Reply) (text : List ℕ)
     town-loaded {reply} e are =
         let stands = loaded-stands text roomyTables bytes e are in
         let found = load-accepts-when-described text bytes roomyTables reply .0 (sym e) in
-        let same = described-town (found .1) in
+        let same = described-town (found .2) in
         record {
-          few-arcs = stands .few-arcs;
           long = stands .long;
-          checked = rw (stands .is-network, same) (described-is-accepted text (found .0) (found .1));
-          answers = rw (stands .is-network, same) (answer-described (found .1));
+          checked = rw (stands .is-network, same) (described-is-accepted text (found .0) (found .1) (found .2));
+          answers = rw (stands .is-network, same) (answer-described (found .2));
         }

@@ -9,7 +9,7 @@ use lib.ListN.{length, take, drop}
 use Rattle.model.specs.Rules.{every, written}
 use Rattle.townfile.specs.Bytes.{lineFeed, space, upTo, pieces}
 use Rattle.townfile.specs.Numbers.{decimal, numberKeeps}
-use Rattle.townfile.specs.Lines.{markOf}
+use Rattle.townfile.specs.Lines.{firstTwo}
 use Rattle.townfile.specs.Grammar.{Bytes, Fields}
 use Rattle.question_line.specs.declared.line.Asked.{Asked}
 use Rattle.question_line.specs.declared.line.Asked.the-variants.{Numbers, Malformed}
@@ -29,7 +29,7 @@ numbersIn text = map decimal (fieldsIn text)
 
 -- The line begins with the mark; 0 is none.
 abbrev pub hasMark : ℕ → List ℕ → Bool
-hasMark mark text = not (eqb mark 0) && eqb (markOf (firstLine text)) mark
+hasMark mark text = not (eqb mark 0) && eqb (firstTwo (firstLine text)) mark
 
 -- The first line has its LF, the mark, and behind that numbers alone.
 unfoldable pub ofForm : ℕ → List ℕ → Bool

@@ -11,7 +11,7 @@ use borrow.Author.Tests.{ne-eqb}
 use Rattle.model.specs.Rules.{Outcome, refused, replied, firstBroken, every, fencesKeep}
 use Rattle.townfile.specs.Bytes.{space, printable, upTo}
 use Rattle.townfile.specs.Numbers.{decimal, numberKeeps}
-use Rattle.townfile.specs.Lines.{markTN, markFN, markJN, markAR, markCM, markOf, markAlone, numbersOf, numbersKeep, numberField, nameField, nameKeeps}
+use Rattle.townfile.specs.Lines.{markTN, markFN, markJN, markAR, markCM, markOf, markAlone, numbersOf, numbersKeep, numberField, nameField, nameKeeps, beginsHeld, arcFields}
 use Rattle.townfile.specs.Lines.{formKeeps, valuesKeep, townKeeps, junctionKeeps, arcKeeps, afterTown, afterFences, afterJunction, afterArc, lineRead}
 use Rattle.townfile.specs.declared.progress.Progress.{Progress}
 use Rattle.fields.specs.Fields.{lineFrom, wordFrom, fieldAt, fieldsFrom, numbersFrom}
@@ -169,9 +169,9 @@ module _ (p : Progress) (text : List ℕ) (at : ℕ) where
         rw (behind .fields-are, behind .alone-is, end-is)
         (numbers-asked turn ended (every numberKeeps fields) (eqb (length fields) count) (test numbers) (next numbers) end)
 
-  pub town-line-is : BehindMark text at → markOf line ≡ markTN → townStep p text (at + 2) ≡ lineStep p text at
+  pub town-line-is : (held : Bool) → BehindMark text at → markOf line ≡ markTN → beginsHeld line ≡ held → townStep p held text (at + 2) ≡ lineStep p text at
   unfolding townStep lineStep firstBroken formKeeps valuesKeep lineRead
-  town-line-is behind mark = rw mark (numbers-line behind (eqb (p .turn) 0) 2 townKeeps (afterTown p))
+  town-line-is held behind mark begins = rw (mark, begins) (numbers-line behind (eqb (p .turn) 0) 2 townKeeps (afterTown p held))
 
   pub fences-line-is : BehindMark text at → markOf line ≡ markFN → fencesStep p text (at + 2) ≡ lineStep p text at
   unfolding fencesStep lineStep firstBroken formKeeps valuesKeep lineRead
@@ -179,7 +179,7 @@ module _ (p : Progress) (text : List ℕ) (at : ℕ) where
 
   pub arc-line-is : BehindMark text at → markOf line ≡ markAR → arcStep p text (at + 2) ≡ lineStep p text at
   unfolding arcStep lineStep firstBroken formKeeps valuesKeep lineRead
-  arc-line-is behind mark = rw mark (numbers-line behind (leb 2 (p .turn)) (3 + p .intervals) (arcKeeps p) (λ numbers. afterArc p))
+  arc-line-is behind mark = rw mark (numbers-line behind (leb 2 (p .turn)) (arcFields p) (arcKeeps p) (λ numbers. afterArc p))
 
   pub comment-line-is : BehindMark text at → markOf line ≡ markCM → commentStep p text (at + 2) ≡ lineStep p text at
   unfolding commentStep lineStep firstBroken formKeeps valuesKeep lineRead

@@ -6,13 +6,13 @@ use mathlib.Core.Bool.{Bool, true, false, cond, _&&_}
 use mathlib.Core.List.{List, [], _∷_}
 use native.Mathlib.Omega.{arith}
 use lib.Dec.{leb, ltb, eqb}
-use lib.ListN.{length, getD, drop}
+use lib.ListN.{length, getD, take, drop}
 use borrow.Author.Tests.{eq-eqb, ne-eqb, ltb-true}
 use Rattle.model.specs.Limits.{maxArcs}
-use Rattle.model.specs.Rules.{refused, replied, every, lengthKeeps, speedKeeps}
+use Rattle.model.specs.Rules.{refused, replied, every, lengthKeeps, speedKeeps, holdKeeps}
 use Rattle.model.proofs.Rules.{true-both}
 use Rattle.townfile.specs.Bytes.{lineFeed, space, upTo}
-use Rattle.townfile.specs.Lines.{townKeeps, junctionKeeps, endsDiffer, arcKeeps, afterTown, afterJunction}
+use Rattle.townfile.specs.Lines.{arcFields, townKeeps, junctionKeeps, endsDiffer, arcKeeps, afterTown, afterJunction}
 use Rattle.townfile.specs.declared.progress.Progress.{Progress}
 use Rattle.fields.specs.Fields.{lineFrom, wordFrom, fieldAt, printableRest, nameAt, numbersFrom, filledBy}
 use Rattle.fields.specs.declared.field.Field.{Field}
@@ -21,7 +21,7 @@ use Rattle.fields.specs.declared.field.Rest.{Rest}
 use Rattle.fields.specs.declared.field.Rest.the-variants as rest
 use Rattle.fields.proofs.LineFrom.{space-ends, word-goes-on}
 use Rattle.fields.proofs.FieldsLeft.{field-read, number-goes}
-use Rattle.number_rows.specs.NumbersRead.{numbersRead, withinIf}
+use Rattle.number_rows.specs.NumbersRead.{numbersRead, rowKeeps, withinIf}
 use Rattle.number_rows.specs.declared.numbers.Numbers.{Numbers}
 use Rattle.number_rows.specs.declared.numbers.Numbers.the-variants.{Within, Outside, Malformed}
 use Rattle.number_rows.proofs.NumbersLeft.{numbers-same, within-both}
@@ -44,22 +44,22 @@ refused-alike p q Malformed other = refl
 
 -- ---- The town
 
-module _ (p : Progress) (text : List ℕ) (at : ℕ) (turn : p .turn ≡ 0) where
-  town-in-turn : {numbers : Numbers} → numbers ≡ numbersRead townKeeps 2 text at → ofNumbers numbers (afterTown p (numbersFrom text at)) ≡ townStep p text at
+module _ (p : Progress) (held : Bool) (text : List ℕ) (at : ℕ) (turn : p .turn ≡ 0) where
+  town-in-turn : {numbers : Numbers} → numbers ≡ numbersRead townKeeps 2 text at → ofNumbers numbers (afterTown p held (numbersFrom text at)) ≡ townStep p held text at
   unfolding townStep
-  town-in-turn e = numbers-in-turn (eqb (p .turn) 0) (afterTown p (numbersFrom text at)) (eq-eqb (p .turn) 0 turn) e
+  town-in-turn e = numbers-in-turn (eqb (p .turn) 0) (afterTown p held (numbersFrom text at)) (eq-eqb (p .turn) 0 turn) e
 
   none-taken : Left townKeeps text at 2 true townKeeps 0 at
   none-taken = all-left townKeeps text at 2
 
-  pub town-no-first : fieldAt text at ≡ field.Malformed → refused 25 ≡ townStep p text at
+  pub town-no-first : fieldAt text at ≡ field.Malformed → refused 25 ≡ townStep p held text at
   town-no-first e = town-in-turn (left-malformed none-taken (omega arith) e)
 
   module _ {junctions second : ℕ} (first : fieldAt text at ≡ field.Number junctions second) where
     first-taken : Left townKeeps text at 2 true (λ numbers. townKeeps (junctions ∷ numbers)) 1 second
     first-taken = left-taken none-taken (omega arith) first
 
-    pub town-no-second : fieldAt text second ≡ field.Malformed → refused 25 ≡ townStep p text at
+    pub town-no-second : fieldAt text second ≡ field.Malformed → refused 25 ≡ townStep p held text at
     town-no-second e = town-in-turn (left-malformed first-taken (omega arith) e)
 
     module _ {intervals end : ℕ} (then : fieldAt text second ≡ field.Number intervals end) where
@@ -67,32 +67,34 @@ module _ (p : Progress) (text : List ℕ) (at : ℕ) (turn : p .turn ≡ 0) wher
       numbers-are = rw (number-goes text at junctions second (field-read text at first), number-goes text second intervals end (field-read text second then))
 
       pub town-numbers : {numbers : Numbers} {keeps : Bool} → keeps ≡ townKeeps (junctions ∷ intervals ∷ []) → numbers ≡ numbersRead (λ all. keeps) 0 text end →
-          ofNumbers numbers (afterTown p (junctions ∷ intervals ∷ [])) ≡ townStep p text at
+          ofNumbers numbers (afterTown p held (junctions ∷ intervals ∷ [])) ≡ townStep p held text at
       town-numbers {numbers} k n =
           let all = left-decides (left-taken first-taken (omega arith) then) (omega arith) k in
-          ap (λ read. ofNumbers numbers (afterTown p read)) (sym numbers-are) ∙ town-in-turn (n ∙ all)
+          ap (λ read. ofNumbers numbers (afterTown p held read)) (sym numbers-are) ∙ town-in-turn (n ∙ all)
 
 -- ---- The numbers of an arc
 
--- What an arc asks beside its speeds, and the speeds.
-fits-and-speeds : (ends metres speeds arcs : Bool) → (ends && metres && arcs && speeds) ≡ (ends && metres && speeds && arcs)
-fits-and-speeds false metres speeds arcs = refl
-fits-and-speeds true false speeds arcs = refl
-fits-and-speeds true true true true = refl
-fits-and-speeds true true true false = refl
-fits-and-speeds true true false true = refl
-fits-and-speeds true true false false = refl
+-- What an arc asks beside its row, and the row.
+fits-and-row : (ends metres speeds hold arcs : Bool) → ((ends && metres && arcs) && (speeds && hold)) ≡ (ends && metres && speeds && hold && arcs)
+fits-and-row false metres speeds hold arcs = refl
+fits-and-row true false speeds hold arcs = refl
+fits-and-row true true false hold true = refl
+fits-and-row true true false hold false = refl
+fits-and-row true true true true true = refl
+fits-and-row true true true true false = refl
+fits-and-row true true true false true = refl
+fits-and-row true true true false false = refl
 
 module _ (p : Progress) (text : List ℕ) (at : ℕ) where
   abbrev asked : Numbers
-  asked = numbersRead (arcKeeps p) (3 + p .intervals) text at
+  asked = numbersRead (arcKeeps p) (arcFields p) text at
 
   -- What is left behind the first numbers.
   abbrev ArcLeft : (List ℕ → List ℕ) → ℕ → ℕ → Type 0
-  ArcLeft behind k i = Left (arcKeeps p) text at (3 + p .intervals) true (λ numbers. arcKeeps p (behind numbers)) k i
+  ArcLeft behind k i = Left (arcKeeps p) text at (arcFields p) true (λ numbers. arcKeeps p (behind numbers)) k i
 
   nothing-taken : ArcLeft (λ numbers. numbers) 0 at
-  nothing-taken = all-left (arcKeeps p) text at (3 + p .intervals)
+  nothing-taken = all-left (arcKeeps p) text at (arcFields p)
 
   pub arc-no-tail : fieldAt text at ≡ field.Malformed → Malformed ≡ asked
   arc-no-tail e = left-malformed nothing-taken (omega arith) e
@@ -115,18 +117,20 @@ module _ (p : Progress) (text : List ℕ) (at : ℕ) where
         metres-taken : ArcLeft (λ numbers. tail ∷ head ∷ metres ∷ numbers) 3 fourth
         metres-taken = left-taken head-taken (omega arith) last
 
-        pub arc-numbers : {speeds all : Numbers} {fits : Bool} → speeds ≡ numbersRead (every speedKeeps) (p .intervals) text fourth →
-            fits ≡ arcFits p tail head metres → all ≡ withinIf speeds fits → all ≡ asked
-        arc-numbers s f a =
+        pub arc-numbers : {row all : Numbers} {fits : Bool} → row ≡ numbersRead (rowKeeps (p .intervals)) (p .intervals + cond (p .held) 1 0) text fourth →
+            fits ≡ arcFits p tail head metres → all ≡ withinIf row fits → all ≡ asked
+        arc-numbers r f a =
             let rest = numbersFrom text fourth in
             let beside = arcFits p tail head metres in
             let keeps : List ℕ → Bool = λ numbers. arcKeeps p (tail ∷ head ∷ metres ∷ numbers) in
-            let count : 3 + p .intervals - 3 ≡ p .intervals = omega arith in
-            let same : (beside && every speedKeeps rest) ≡ keeps rest =
-            fits-and-speeds (endsDiffer (p .junctions) tail head) (lengthKeeps metres) (every speedKeeps rest) (ltb (p .arcs) maxArcs) in
-            a ∙ rw (s, f)
-            (within-both beside (every speedKeeps) (p .intervals) text fourth
-            ∙ numbers-same (λ numbers. beside && every speedKeeps numbers) keeps (p .intervals) text fourth same
+            let left : ℕ = p .intervals + cond (p .held) 1 0 in
+            let count : arcFields p - 3 ≡ left = omega arith in
+            let same : (beside && rowKeeps (p .intervals) rest) ≡ keeps rest =
+            fits-and-row (endsDiffer (p .junctions) tail head) (lengthKeeps metres) (every speedKeeps (take (p .intervals) rest))
+            (holdKeeps (getD rest (p .intervals) 0)) (ltb (p .arcs) maxArcs) in
+            a ∙ rw (r, f)
+            (within-both beside (rowKeeps (p .intervals)) left text fourth
+            ∙ numbers-same (λ numbers. beside && rowKeeps (p .intervals) numbers) keeps left text fourth same
             ∙ ap (λ some. numbersRead keeps some text fourth) (sym count)
             ∙ metres-taken .same)
 
@@ -135,8 +139,9 @@ module _ (p : Progress) (text : List ℕ) (at : ℕ) where
   unfolding numbersRead
   arc-counted {end} e =
       let numbers = numbersFrom text at in
-      let others = endsDiffer (p .junctions) (getD numbers 0 0) (getD numbers 1 0) && lengthKeeps (getD numbers 2 0) && every speedKeeps (drop 3 numbers) in
-      ltb-true (p .arcs) maxArcs (true-both others (ltb (p .arcs) maxArcs) (go (filledBy (3 + p .intervals) text at) (arcKeeps p numbers) e) .1)
+      let ends = endsDiffer (p .junctions) (getD numbers 0 0) (getD numbers 1 0) && lengthKeeps (getD numbers 2 0) in
+      let others = ends && every speedKeeps (take (p .intervals) (drop 3 numbers)) && holdKeeps (getD (drop 3 numbers) (p .intervals) 0) in
+      ltb-true (p .arcs) maxArcs (true-both others (ltb (p .arcs) maxArcs) (go (filledBy (arcFields p) text at) (arcKeeps p numbers) e) .1)
     where
       go : (filled fits : Bool) → Within end ≡ cond filled (cond fits (Within (at + length (lineFrom text at))) Outside) Malformed → fits ≡ true
       go true true e = refl

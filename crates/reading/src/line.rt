@@ -1,8 +1,7 @@
 // One line of a town file: what it adds to the progress, or its first fault of 23 to 26. The line's length and its line feed are
 // the scan's.
 ghost use mathlib.Core.Path.{_≡_};
-ghost use Prim.Native.Nat.{_+_};
-ghost use Rattle.townfile.specs.Lines.{arcKeeps};
+ghost use Rattle.townfile.specs.Lines.{arcFields, arcKeeps};
 ghost use Rattle.number_rows.specs.NumbersRead.{numbersRead};
 ghost use Rattle.reading.specs.LineSteps.{outcomeOf, lineStep};
 ghost use Rattle.reading.specs.code.Kinds.{ofNumbers, townStep, fencesStep, junctionStep, arcStep, commentStep};
@@ -19,11 +18,13 @@ use number_rows::numbers::Numbers;
 use number_rows::numbers::fences_read;
 use number_rows::numbers::numbers_end;
 use number_rows::numbers::within_if;
-use number_rows::speeds::speeds_read;
+use number_rows::speeds::long_row;
+use number_rows::speeds::row_read;
 use refusals::refusal::Refusal;
 use townfile::mark::ARC;
 use townfile::mark::COMMENT;
 use townfile::mark::FENCES;
+use townfile::mark::HELD_TOWN;
 use townfile::mark::JUNCTION;
 use townfile::mark::TOWN;
 use townfile::progress::Progress;
@@ -49,8 +50,9 @@ fn of_numbers(numbers: Numbers, next: Progress) -> LineRead
 
 // ---- A line of each kind, from the place behind its mark
 
-fn town_line(progress: Progress, text: &[u8], at: usize) -> LineRead
-    ensures { λ r. ⌜ outcomeOf r ≡ townStep progress (now (text .entry)) at ⌝ }
+// TN, or TW in the new form.
+fn town_line(progress: Progress, held: bool, text: &[u8], at: usize) -> LineRead
+    ensures { λ r. ⌜ outcomeOf r ≡ townStep progress held (now (text .entry)) at ⌝ }
 {
     if progress.turn != Progress::TOWN_DUE {
         return LineRead::Fault(Refusal::MarkOutOfTurn);
@@ -70,7 +72,7 @@ fn town_line(progress: Progress, text: &[u8], at: usize) -> LineRead
         return LineRead::Fault(Refusal::FieldForm);
     };
     let numbers = numbers_end(text, end, town_keeps(junctions, intervals));
-    of_numbers(numbers, progress.after_town(junctions, intervals))
+    of_numbers(numbers, progress.after_town(held, junctions, intervals))
 }
 
 fn fences_line(progress: Progress, text: &[u8], at: usize) -> LineRead
@@ -108,9 +110,9 @@ fn junction_line(progress: Progress, text: &[u8], at: usize) -> LineRead
     }
 }
 
-// The numbers of an arc: tail, head and length, then the speeds.
+// The numbers of an arc: tail, head and length, then the speeds, and in the new form the hold.
 fn arc_read(progress: Progress, text: &[u8], at: usize) -> Numbers
-    ensures { λ r. ⌜ r ≡ numbersRead (arcKeeps progress) (3 + progress .intervals) (now (text .entry)) at ⌝ }
+    ensures { λ r. ⌜ r ≡ numbersRead (arcKeeps progress) (arcFields progress) (now (text .entry)) at ⌝ }
 {
     let Field::Number {
         value: tail,
@@ -133,8 +135,12 @@ fn arc_read(progress: Progress, text: &[u8], at: usize) -> Numbers
     else {
         return Numbers::Malformed;
     };
-    let read = speeds_read(text, fourth, progress.intervals);
-    within_if(read, arc_fits(progress, tail, head, metres))
+    // Only a row that can still be within its limits is worth the short reading.
+    if !arc_fits(progress, tail, head, metres) {
+        let read = long_row(text, fourth, progress.intervals, progress.held);
+        return within_if(read, false);
+    }
+    row_read(text, fourth, progress.intervals, progress.held)
 }
 
 fn arc_line(progress: Progress, text: &[u8], at: usize) -> LineRead
@@ -179,7 +185,7 @@ pub fn read_line(progress: Progress, text: &[u8], at: usize) -> LineRead
 {
     let mark = mark_at(text, at);
     match mark {
-        TOWN => town_line(progress, text, at + 2),
+        TOWN | HELD_TOWN => town_line(progress, mark == HELD_TOWN, text, at + 2),
         FENCES => fences_line(progress, text, at + 2),
         JUNCTION => junction_line(progress, text, at + 2),
         ARC => arc_line(progress, text, at + 2),

@@ -5,7 +5,7 @@ use Rattle.refusals.specs.declared.refusal.Refusal.the-variants.{Junctio
 use Rattle.refusals.specs.declared.refusal.Refusal.the-variants.{Source, Departure, BufferLength, Destination, Unreached, ArcListLength, DepartureAfterLast}
 use Rattle.refusals.specs.declared.refusal.Refusal.the-variants.{TextLength, NoLineFeed, LineLength, UnknownMark, MarkOutOfTurn}
 use Rattle.refusals.specs.declared.refusal.Refusal.the-variants.{FieldForm, FieldValue, LineMissing, TableTooShort}
-use Rattle.refusals.specs.declared.refusal.Refusal.the-variants.{DepartureCount, SheetLength, DepartureInterval}
+use Rattle.refusals.specs.declared.refusal.Refusal.the-variants.{FormAlready, HoldDropped, OutputLength, DepartureCount, SheetLength, DepartureInterval}
 
 abbrev pub numberOf : Refusal → ℕ
 numberOf JunctionCount = 1
@@ -35,6 +35,9 @@ numberOf TableTooShort = 28
 numberOf DepartureCount = 30
 numberOf SheetLength = 31
 numberOf Hold = 32
+numberOf FormAlready = 33
+numberOf HoldDropped = 34
+numberOf OutputLength = 35
 numberOf DepartureInterval = 46
 
 -- "As 4,294,900,000 + its number": a refusal's code is this and its number.

@@ -32,6 +32,10 @@ pub enum Refusal {
     FieldValue,
     LineMissing,
     TableTooShort,
+    // The converters'.
+    FormAlready,
+    HoldDropped,
+    OutputLength,
     // The sheet's.
     DepartureCount,
     SheetLength,
@@ -75,6 +79,9 @@ impl Refusal {
             Refusal::DepartureCount => 30,
             Refusal::SheetLength => 31,
             Refusal::Hold => 32,
+            Refusal::FormAlready => 33,
+            Refusal::HoldDropped => 34,
+            Refusal::OutputLength => 35,
             Refusal::DepartureInterval => 46,
         }
     }

@@ -13,7 +13,7 @@ use Rattle.model.specs.Rules.{firstBroken, every}
 use Rattle.model.proofs.Rules.{every-at, at-every}
 use Rattle.model.proofs.Tests.{ltb-cases}
 use Rattle.townfile.specs.FirstFault.{Reading, refusedAt, accepted, firstFault}
-use Rattle.townfile.specs.Grammar.{Bytes, Town, Describes, networkOf}
+use Rattle.townfile.specs.Grammar.{Bytes, Town, DescribesTown, networkOf}
 use Rattle.townfile.specs.declared.progress.Progress.{Progress}
 use Rattle.townfile.proofs.Described.{faultless-described}
 use Rattle.sheeting.specs.Sheet.{maxDepartures, inDay, ShiftTaken}
@@ -72,9 +72,9 @@ module _ (input : List ℕ) (bytes : Bytes input) where
         let asked = asks-shift-when-of-form input bytes source departures text .1 question in
         sheet-asked input short (asked .0) ∙ rw (asked .1, asked .2, asked .3)
 
-    module _ {town : Town} (described : Describes text town) where
+    module _ {town : Town} (described : DescribesTown text town) where
       answer-town : sheetFor input ≡ networkSheet (networkOf town) source departures
-      answer-town = answer-question ∙ answer-described _ text described
+      answer-town = answer-question ∙ answer-described _ text (described .1)
 
       answer-unknown : town .junctions ≤ source → sheetFor input ≡ refusedAt 9 0
       unfolding networkSheet firstBroken
@@ -125,7 +125,7 @@ module _ (input : List ℕ) (bytes : Bytes input) where
   -- ---- From the answer to its meaning
 
   module _ (short : length input ≤ 65536) {source : ℕ} {departures text : List ℕ} (question : ShiftAndText input source departures text) where
-    module _ {town : Town} (described : Describes text town) where
+    module _ {town : Town} (described : DescribesTown text town) where
       module _ (below : source < town .junctions) where
         count-means : (length departures ≡ 0) ⊎ (maxDepartures < length departures) → Means input (sheetFor input)
         count-means count = rw (answer-count short question described below count) (wrong-count short question described below count)
@@ -134,7 +134,7 @@ module _ (input : List ℕ) (bytes : Bytes input) where
         listed-means some few = go (all-or-late departures)
           where
             taken : ((k : ℕ) → k < length departures → getD departures k 0 < day) → ShiftTaken (networkOf town) source departures
-            taken all = record { accepted = described .kept .network-accepted; source-below = below; some = some; at-most = few; departures-below = all }
+            taken all = record { accepted = described .1 .kept .network-accepted; source-below = below; some = some; at-most = few; departures-below = all }
 
             sheet : ((k : ℕ) → k < length departures → getD departures k 0 < day) → Means input (accepted (sheetIn (networkOf town) source departures))
             sheet all = record {
@@ -148,7 +148,7 @@ module _ (input : List ℕ) (bytes : Bytes input) where
               taken = taken all;
               line-each = refl;
               are-figures = refl;
-              figures-mean = figures-of-network-mean (networkOf town) (described .kept .network-accepted) source below departures all;
+              figures-mean = figures-of-network-mean (networkOf town) (described .1 .kept .network-accepted) source below departures all;
             }
 
             go : ((k : ℕ) → k < length departures → getD departures k 0 < day) ⊎ Late departures → Means input (sheetFor input)
@@ -174,7 +174,7 @@ module _ (input : List ℕ) (bytes : Bytes input) where
       where
         go : (reading : Reading Progress) → firstFault text ≡ reading → Means input (sheetFor input)
         go (refusedAt number line) e = rw (answer-question short question ∙ answer-faulty _ _ e) (faulty-text short question e)
-        go (accepted p) e = described-means (faultless-described (rest-bytes bytes question) e .1)
+        go (accepted p) e = described-means (p .held, faultless-described (rest-bytes bytes question) e .1)
 
   unasked : asksShift input ≡ false → (source : ℕ) (departures text : List ℕ) → ShiftAndText input source departures text → ⊥
   unasked a source departures text question =

@@ -7,7 +7,7 @@ use mathlib.Core.Logic.{_⊎_, _↔_}
 use lib.ListN.{length, getD}
 use Rattle.model.specs.Ticks.{day}
 use Rattle.townfile.specs.FirstFault.{refusedAt, firstFault}
-use Rattle.townfile.specs.Grammar.{Bytes, Town, Describes, networkOf}
+use Rattle.townfile.specs.Grammar.{Bytes, Town, DescribesTown, networkOf}
 use Rattle.sheeting.specs.Figures.{figuresOf, figureIn, FiguresMean}
 use Rattle.sheeting.specs.Sheet.{maxDepartures, ShiftTaken}
 use Rattle.formatting.specs.Texts.{refusalText}
@@ -23,7 +23,7 @@ pub record PrintedSheetMeans (input : List ℕ) (junctions : ℕ) (figures : Lis
   pub text : List ℕ
   pub question : ShiftAndText input source departures text
   pub town : Town
-  pub described : Describes text town
+  pub described : DescribesTown text town
   pub taken : ShiftTaken (networkOf town) source departures
   pub line-each : junctions ≡ town .junctions
   pub are-figures : figures ≡ figuresOf (networkOf town) source departures
@@ -40,14 +40,14 @@ pub data SheetRefusalMeans (input : List ℕ) : ℕ → ℕ → Type 0 where
       length input ≤ 65536 → ShiftAndText input source departures text → firstFault text ≡ refusedAt number line → SheetRefusalMeans input number line
   -- "9, source not below the junction count."
   unknown-source : {source : ℕ} {departures text : List ℕ} {town : Town} →
-      length input ≤ 65536 → ShiftAndText input source departures text → Describes text town → town .junctions ≤ source → SheetRefusalMeans input 9 0
+      length input ≤ 65536 → ShiftAndText input source departures text → DescribesTown text town → town .junctions ≤ source → SheetRefusalMeans input 9 0
   -- "30, the list is empty or above 96, after 9."
   wrong-count : {source : ℕ} {departures text : List ℕ} {town : Town} →
-      length input ≤ 65536 → ShiftAndText input source departures text → Describes text town → source < town .junctions →
+      length input ≤ 65536 → ShiftAndText input source departures text → DescribesTown text town → source < town .junctions →
       (length departures ≡ 0) ⊎ (maxDepartures < length departures) → SheetRefusalMeans input 30 0
   -- "10, departure 864,000 or above", "which now covers every departure".
   late-departure : {source : ℕ} {departures text : List ℕ} {town : Town} →
-      length input ≤ 65536 → ShiftAndText input source departures text → Describes text town → source < town .junctions →
+      length input ≤ 65536 → ShiftAndText input source departures text → DescribesTown text town → source < town .junctions →
       0 < length departures → length departures ≤ maxDepartures → (k : ℕ) → k < length departures → day ≤ getD departures k 0 → SheetRefusalMeans input 10 0
 
 -- ---- What is proved of it

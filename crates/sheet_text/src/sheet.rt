@@ -2,7 +2,6 @@
 ghost use mathlib.Core.Path.{_≡_};
 ghost use Prim.Native.Nat.{_*_, _≤_, min};
 ghost use lib.ListN.{length, take};
-ghost use Rattle.model.specs.Limits.{maxArcs};
 ghost use Rattle.model.specs.Lent.{lentNetwork, networkIn};
 ghost use Rattle.model.specs.NetworkRules.{networkCheck};
 ghost use Rattle.model.specs.Rules.{replied, written};
@@ -122,24 +121,22 @@ fn loaded_sheet(
     tails: &[u16],
     heads: &[u16],
     lengths: &[u32],
+    holds: &[u16],
     speeds: &[u8],
     source: u32,
     departures: &[u32],
     output: &mut [u8; OUTPUT],
 ) -> Text
-    requires { ⌜ arcs ≤ maxArcs ⌝ }
-    requires { ⌜ LongEnough (counts junctions intervals arcs) (tablesIn fences tails heads lengths speeds) ⌝ }
-    requires { ⌜ networkCheck (networkAt (counts junctions intervals arcs) (tablesIn fences tails heads lengths speeds)) ≡ replied tt ⌝ }
+    requires { ⌜ LongEnough (counts junctions intervals arcs) (tablesIn fences tails heads lengths holds speeds) ⌝ }
+    requires { ⌜ networkCheck (networkAt (counts junctions intervals arcs) (tablesIn fences tails heads lengths holds speeds)) ≡ replied tt ⌝ }
     requires { ⌜ length (now departures) ≤ 97 ⌝ }
     ensures { λ r. ⌜ PrintedAnswer linesOf
-        (networkSheet (networkAt (counts junctions intervals arcs) (lentTables fences tails heads lengths speeds)) source (now (departures .entry)))
+        (networkSheet (networkAt (counts junctions intervals arcs) (lentTables fences tails heads lengths holds speeds)) source (now (departures .entry)))
         (now (output .entry)) (now (output .exit)) r ⌝ }
 {
     let width = intervals as usize;
     let count = arcs as usize;
     let speed_count = count * width;
-    // Town files have hold 0.
-    let holds = [0u16; MAX_ARCS];
     network_sheet(
         junctions,
         &fences[..width],
@@ -163,6 +160,7 @@ fn town_sheet(text: &[u8], source: u32, departures: &[u32], output: &mut [u8; OU
     let mut tails = [0u16; MAX_ARCS];
     let mut heads = [0u16; MAX_ARCS];
     let mut lengths = [0u32; MAX_ARCS];
+    let mut holds = [0u16; MAX_ARCS];
     let mut speeds = [0u8; MAX_ARCS * MAX_INTERVALS];
     match load(
         text,
@@ -170,6 +168,7 @@ fn town_sheet(text: &[u8], source: u32, departures: &[u32], output: &mut [u8; OU
         &mut tails,
         &mut heads,
         &mut lengths,
+        &mut holds,
         &mut speeds,
     ) {
         Loaded::Refused { refusal, line } => refuse(output, refusal, line),
@@ -185,6 +184,7 @@ fn town_sheet(text: &[u8], source: u32, departures: &[u32], output: &mut [u8; OU
             &tails,
             &heads,
             &lengths,
+            &holds,
             &speeds,
             source,
             departures,

@@ -3,7 +3,7 @@
 -- are computed from that network.
 use Prim.Native.Nat.{ℕ, _<_}
 use mathlib.Core.Path.{_≡_, refl, sym, ap, subst, _∙_}
-use mathlib.Core.Bool.{true}
+use mathlib.Core.Bool.{true, false}
 use mathlib.Core.List.{List, [], _∷_, flatten}
 use mathlib.Core.Option.{some}
 use native.Mathlib.Omega.{arith}
@@ -28,9 +28,9 @@ use Rattle.labelling.proofs.LabelRules.{labels-replies-when-labelable}
 use Rattle.arc_arrival.specs.ArcArrival.{arcArrival}
 use Rattle.townfile.specs.Bytes.{upTo, onFirst, pieces}
 use Rattle.townfile.specs.Numbers.{decimalFrom, numberKeeps}
-use Rattle.townfile.specs.Lines.{markOf, nameKeeps, formKeeps, valuesKeep, lineRead, lineAnswer}
+use Rattle.townfile.specs.Lines.{firstTwo, markOf, nameKeeps, formKeeps, valuesKeep, lineRead, lineAnswer}
 use Rattle.townfile.specs.FirstFault.{refusedAt, accepted, linesFrom, firstFault}
-use Rattle.townfile.specs.Grammar.{Describes, networkOf, joined}
+use Rattle.townfile.specs.Grammar.{Bytes, DescribesTown, networkOf, joined}
 use Rattle.townfile.specs.Tables.{marked, townOf}
 use Rattle.townfile.specs.Load.{Tables, loadAnswer, tablesAfter}
 use Rattle.townfile.specs.declared.progress.Progress.{Progress}
@@ -71,9 +71,10 @@ labels-are N source departure expected checked source-below departure-below comp
     (answer, rw answer computed)
 
 -- A text whose scan computes describes the town that its lines give.
-describes : (text : List ℕ) (p : Progress) → every (λ byte. ltb byte 256) text ≡ true → firstFault text ≡ accepted p → Describes text (townOf text)
+describes : (text : List ℕ) (p : Progress) → every (λ byte. ltb byte 256) text ≡ true → firstFault text ≡ accepted p → DescribesTown text (townOf text)
 describes text p small faultless =
-    describes-when-faultless text (λ i h. ltb-true (getD text i 0) 256 (every-at (λ byte. ltb byte 256) 0 text small i h)) (townOf text) .1 ((p, faultless), refl)
+    let bytes : Bytes text = λ i h. ltb-true (getD text i 0) 256 (every-at (λ byte. ltb byte 256) 0 text small i h) in
+    (p .held, describes-when-faultless text bytes (p .held) (townOf text) .1 ((p, faultless, refl), refl))
 
 -- Texts that describe one town load alike.
 loads-alike : (text text′ : List ℕ) (p : Progress) → firstFault text ≡ accepted p → firstFault text′ ≡ accepted p → townOf text ≡ townOf text′ → (lent : Tables) →
@@ -89,18 +90,18 @@ refused-text text number line e lent = (rw e, rw e)
 -- ---- The sample town
 
 sample-read : Progress
-sample-read = record { turn = 3; junctions = 3; intervals = 2; unnamed = 1; arcs = 3 }
+sample-read = record { turn = 3; held = false; junctions = 3; intervals = 2; unnamed = 1; arcs = 3 }
 
 scanned : (firstFault sampleText ≡ accepted sample-read) × (firstFault sampleWithoutComment ≡ accepted sample-read)
-unfolding sample-read joined firstBroken every riseFrom fencesKeep upTo onFirst pieces decimalFrom numberKeeps markOf nameKeeps formKeeps valuesKeep
+unfolding sample-read joined firstBroken every riseFrom fencesKeep upTo onFirst pieces decimalFrom numberKeeps firstTwo markOf nameKeeps formKeeps valuesKeep
     lineRead lineAnswer linesFrom firstFault
 scanned = (refl, refl)
 
 same-town : townOf sampleText ≡ townOf sampleWithoutComment
-unfolding joined pieces upTo onFirst decimalFrom markOf marked townOf flatten
+unfolding joined pieces upTo onFirst decimalFrom firstTwo markOf marked townOf flatten
 same-town = refl
 
-sample-described : Describes sampleText (townOf sampleText)
+sample-described : DescribesTown sampleText (townOf sampleText)
 unfolding joined every
 sample-described = describes sampleText sample-read refl (scanned .0)
 
@@ -109,7 +110,7 @@ abbrev sampleNetwork : Network
 sampleNetwork = network 3 (0 ∷ 100 ∷ []) (0 ∷ 0 ∷ 1 ∷ []) (1 ∷ 2 ∷ 2 ∷ []) (50 ∷ 100 ∷ 50 ∷ []) (0 ∷ 0 ∷ 0 ∷ []) (36 ∷ 18 ∷ 40 ∷ 20 ∷ 36 ∷ 36 ∷ [])
 
 sample-network : networkOf (townOf sampleText) ≡ sampleNetwork
-unfolding joined pieces upTo onFirst decimalFrom markOf marked townOf flatten
+unfolding joined pieces upTo onFirst decimalFrom firstTwo markOf marked townOf flatten
 sample-network = refl
 
 sample-checked : networkCheck sampleNetwork ≡ replied tt

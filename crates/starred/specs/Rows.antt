@@ -10,7 +10,7 @@ use Rattle.model.specs.Network.{Network}
 use Rattle.model.specs.Rules.{replied}
 use Rattle.arc_arrival.specs.ArcArrival.{arcArrival}
 use Rattle.labelling.specs.Labels.{labelsAnswer, labelsAfter}
-use Rattle.townfile.specs.Grammar.{Town, Describes, networkOf, joined}
+use Rattle.townfile.specs.Grammar.{Town, DescribesTown, networkOf, joined}
 use Rattle.townfile.specs.FirstFault.{refusedAt}
 use Rattle.townfile.specs.Load.{Tables, loadAnswer, tablesAfter}
 
@@ -31,8 +31,8 @@ LabelsAre N source departure expected = (labels predecessors : List ℕ) → len
 -- alike, or are refused, whatever tables are lent.
 abbrev pub Claims : Row → Type 0
 Claims (arc metres fences speeds departure interval arrival) = arcArrival departure interval metres 0 fences speeds ≡ replied arrival
-Claims (town text source departure expected) = (T : Town) × Describes text T × LabelsAre (networkOf T) source departure expected
-Claims (alike text text′) = (T : Town) × Describes text T × Describes text′ T
+Claims (town text source departure expected) = (T : Town) × DescribesTown text T × LabelsAre (networkOf T) source departure expected
+Claims (alike text text′) = (T : Town) × DescribesTown text T × DescribesTown text′ T
     × ((lent : Tables) → (loadAnswer text lent ≡ loadAnswer text′ lent) × (tablesAfter text lent ≡ tablesAfter text′ lent))
 Claims (refuses text number line) = (lent : Tables) → (loadAnswer text lent ≡ refusedAt number line) × (tablesAfter text lent ≡ lent)
 

@@ -1,7 +1,5 @@
 // What Load and Name answer for the stored town files, which the arguments name, and what the lent tables then hold. Every
 // entry is 9 before a call.
-ghost use Prim.Native.Nat.{_≤_};
-ghost use lib.ListN.{length};
 use libc::STDOUT_FILENO;
 use loading::load::Loaded;
 use loading::load::load;
@@ -9,12 +7,14 @@ use naming::name::name;
 use streams::input::read_all;
 use streams::transfer::Transfer;
 
+mod parts;
+
 // Longer than any file that Load takes, so that a longer one is seen to be longer.
 const ROOM: usize = 65_538;
 
 // ---- Numbers, each after a space
 
-fn print_number(number: u64) {
+pub(crate) fn print_number(number: u64) {
     io::write_all(STDOUT_FILENO, b" ");
     io::print_decimal(STDOUT_FILENO, number);
 }
@@ -51,7 +51,7 @@ fn print_u8(table: &[u8], at: usize) {
 }
 
 // The entries from one place up to another.
-fn print_u32s(table: &[u32], from: usize, to: usize) {
+pub(crate) fn print_u32s(table: &[u32], from: usize, to: usize) {
     let mut k = from;
     while k < to {
         print_u32(table, k);
@@ -69,7 +69,7 @@ fn print_u8s(table: &[u8], from: usize, to: usize) {
 
 // ---- A stored town file, loaded into tables that are long enough
 
-fn print_answer(answer: Loaded) {
+pub(crate) fn print_answer(answer: Loaded) {
     match answer {
         Loaded::Counts {
             junctions,
@@ -123,33 +123,36 @@ fn print_across(
     tails: &[u16],
     heads: &[u16],
     lengths: &[u32],
+    holds: &[u16],
     speeds: &[u8],
 ) {
     print_u32(fences, interval);
-    print_ends(arc, tails, heads, lengths);
+    print_ends(arc, tails, heads, lengths, holds);
     print_u8(speeds, speed);
     io::write_all(STDOUT_FILENO, b"\n");
 }
 
-// An arc's tail, head and length.
-fn print_ends(arc: usize, tails: &[u16], heads: &[u16], lengths: &[u32]) {
+// An arc's tail, head, length and hold.
+fn print_ends(arc: usize, tails: &[u16], heads: &[u16], lengths: &[u32], holds: &[u16]) {
     print_u16(tails, arc);
     print_u16(heads, arc);
     print_u32(lengths, arc);
+    print_u16(holds, arc);
 }
 
 // The same, and its speeds, from one place up to another.
-fn print_arc(
+pub(crate) fn print_arc(
     arc: usize,
     from: usize,
     to: usize,
     tails: &[u16],
     heads: &[u16],
     lengths: &[u32],
+    holds: &[u16],
     speeds: &[u8],
 ) {
     io::write_all(STDOUT_FILENO, b"arc");
-    print_ends(arc, tails, heads, lengths);
+    print_ends(arc, tails, heads, lengths, holds);
     print_u8s(speeds, from, to);
     io::write_all(STDOUT_FILENO, b"\n");
 }
@@ -162,6 +165,7 @@ fn print_town(
     tails: &[u16],
     heads: &[u16],
     lengths: &[u32],
+    holds: &[u16],
     speeds: &[u8],
 ) {
     let width = intervals as usize;
@@ -170,14 +174,33 @@ fn print_town(
     print_u32s(fences, 0, width);
     io::write_all(STDOUT_FILENO, b"\n");
     if 0 < count {
-        print_arc(0, 0, width, tails, heads, lengths, speeds);
+        print_arc(0, 0, width, tails, heads, lengths, holds, speeds);
     }
     if 1 < count {
-        print_arc(1, width, width + width, tails, heads, lengths, speeds);
+        print_arc(
+            1,
+            width,
+            width + width,
+            tails,
+            heads,
+            lengths,
+            holds,
+            speeds,
+        );
     }
     let behind = speed_count(arcs, intervals);
     io::write_all(STDOUT_FILENO, b"then");
-    print_across(width, count, behind, fences, tails, heads, lengths, speeds);
+    print_across(
+        width,
+        count,
+        behind,
+        fences,
+        tails,
+        heads,
+        lengths,
+        holds,
+        speeds,
+    );
 }
 
 // Where a text is refused, a changed table shows in its first entry.
@@ -186,6 +209,7 @@ fn print_block(title: &[u8], text: &[u8]) {
     let mut tails = [9u16; 641];
     let mut heads = [9u16; 641];
     let mut lengths = [9u32; 641];
+    let mut holds = [9u16; 641];
     let mut speeds = [9u8; 61_441];
     io::write_all(STDOUT_FILENO, title);
     let answer = load(
@@ -194,6 +218,7 @@ fn print_block(title: &[u8], text: &[u8]) {
         &mut tails,
         &mut heads,
         &mut lengths,
+        &mut holds,
         &mut speeds,
     );
     print_answer(answer);
@@ -203,14 +228,23 @@ fn print_block(title: &[u8], text: &[u8]) {
             intervals,
             arcs,
         } => {
-            print_town(intervals, arcs, &fences, &tails, &heads, &lengths, &speeds);
+            print_town(
+                intervals,
+                arcs,
+                &fences,
+                &tails,
+                &heads,
+                &lengths,
+                &holds,
+                &speeds,
+            );
         }
         Loaded::Refused {
             refusal: _,
             line: _,
         } => {
             io::write_all(STDOUT_FILENO, b"first entries");
-            print_across(0, 0, 0, &fences, &tails, &heads, &lengths, &speeds);
+            print_across(0, 0, 0, &fences, &tails, &heads, &lengths, &holds, &speeds);
         }
     }
     print_names(text);
@@ -246,97 +280,7 @@ fn print_arguments() {
     }
 }
 
-// ---- Parts of tables lent to Load, of which some are too short
-
-// Lends the first so many entries of each table.
-fn load_parts(
-    text: &[u8],
-    f: usize,
-    t: usize,
-    h: usize,
-    l: usize,
-    s: usize,
-    fences: &mut [u32],
-    tails: &mut [u16],
-    heads: &mut [u16],
-    lengths: &mut [u32],
-    speeds: &mut [u8],
-) -> Loaded
-    requires { ⌜ f ≤ length (now fences) ⌝ }
-    requires { ⌜ t ≤ length (now tails) ⌝ }
-    requires { ⌜ h ≤ length (now heads) ⌝ }
-    requires { ⌜ l ≤ length (now lengths) ⌝ }
-    requires { ⌜ s ≤ length (now speeds) ⌝ }
-{
-    load(
-        text,
-        &mut fences[..f],
-        &mut tails[..t],
-        &mut heads[..h],
-        &mut lengths[..l],
-        &mut speeds[..s],
-    )
-}
-
-// Tables for two intervals and three arcs, and the entry behind them.
-fn print_whole(fences: &[u32], tails: &[u16], heads: &[u16], lengths: &[u32], speeds: &[u8]) {
-    io::write_all(STDOUT_FILENO, b"fences");
-    print_u32s(fences, 0, 3);
-    io::write_all(STDOUT_FILENO, b"\n");
-    print_arc(0, 0, 2, tails, heads, lengths, speeds);
-    print_arc(1, 2, 4, tails, heads, lengths, speeds);
-    print_arc(2, 4, 6, tails, heads, lengths, speeds);
-    print_arc(3, 6, 7, tails, heads, lengths, speeds);
-}
-
-// The tables have one entry more than the sample town needs.
-fn print_parts(text: &[u8], f: usize, t: usize, h: usize, l: usize, s: usize)
-    requires { ⌜ f ≤ 3 ⌝ }
-    requires { ⌜ t ≤ 4 ⌝ }
-    requires { ⌜ h ≤ 4 ⌝ }
-    requires { ⌜ l ≤ 4 ⌝ }
-    requires { ⌜ s ≤ 7 ⌝ }
-{
-    let mut fences = [9u32; 3];
-    let mut tails = [9u16; 4];
-    let mut heads = [9u16; 4];
-    let mut lengths = [9u32; 4];
-    let mut speeds = [9u8; 7];
-    let answer = load_parts(
-        text,
-        f,
-        t,
-        h,
-        l,
-        s,
-        &mut fences,
-        &mut tails,
-        &mut heads,
-        &mut lengths,
-        &mut speeds,
-    );
-    io::write_all(STDOUT_FILENO, b"room");
-    print_number(f as u64);
-    print_number(t as u64);
-    print_number(h as u64);
-    print_number(l as u64);
-    print_number(s as u64);
-    print_answer(answer);
-    print_whole(&fences, &tails, &heads, &lengths, &speeds);
-}
-
 fn main() {
     print_arguments();
-    let sample =
-        b"TN 3 2\nFN 0 100\nJN 0 Mill Cross\nAR 0 1 50 36 18\nAR 0 2 100 40 20\nAR 1 2 50 36 36\n";
-    print_parts(sample, 2, 3, 3, 3, 6);
-    print_parts(sample, 3, 4, 4, 4, 7);
-    print_parts(sample, 1, 3, 3, 3, 6);
-    print_parts(sample, 2, 2, 3, 3, 6);
-    print_parts(sample, 2, 3, 2, 3, 6);
-    print_parts(sample, 2, 3, 3, 2, 6);
-    print_parts(sample, 2, 3, 3, 3, 5);
-    print_parts(sample, 0, 0, 0, 0, 0);
-    print_parts(b"TN 3 2\nFN 0 100\n", 2, 0, 0, 0, 0);
-    print_parts(b"TN 3 2\n", 0, 0, 0, 0, 0);
+    parts::print_all_parts();
 }

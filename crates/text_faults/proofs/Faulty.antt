@@ -13,7 +13,7 @@ use Rattle.model.specs.Rules.{Outcome}
 use Rattle.model.proofs.Tests.{ltb-cases, eqb-cases}
 use Rattle.townfile.specs.Bytes.{lineFeed, pieces}
 use Rattle.townfile.specs.Grammar.{Bytes, Each, Unbroken, joined}
-use Rattle.townfile.specs.Lines.{markTN, markFN, markOf, namesDue, lineRead}
+use Rattle.townfile.specs.Lines.{markTN, markFN, firstTwo, markOf, namesDue, lineRead}
 use Rattle.townfile.specs.FirstFault.{Reading, refusedAt, accepted, start, atEnd, onward, linesFrom, firstFault}
 use Rattle.townfile.specs.Tables.{marked}
 use Rattle.townfile.specs.Load.{countsOf, tooShort, intoTables, loadAnswer}
@@ -41,7 +41,7 @@ good-and-one before (first ∷ lines) line all g = (all .0, good-and-one (before
 all-unbroken : (before lines : List (List ℕ)) → GoodAfter before lines → Each Unbroken lines
 unfolding GoodAfter Each
 all-unbroken before [] all = tt
-all-unbroken before (line ∷ lines) all = (reads-unbroken (all .0 .formed .1), all-unbroken (before ++ (line ∷ [])) lines (all .1))
+all-unbroken before (line ∷ lines) all = (reads-unbroken (all .0 .formed .2), all-unbroken (before ++ (line ∷ [])) lines (all .1))
 
 -- Behind good lines the next line meets their progress and the next number.
 lines-good : (before lines : List (List ℕ)) (next : List ℕ) (rest : List (List ℕ)) → Ordered before → GoodAfter before lines →
@@ -65,7 +65,7 @@ unfolding marked
 nothing-ordered = record { fences-behind = omega arith; arcs-behind = omega arith }
 
 start-is : progressAfter [] ≡ start
-unfolding progressAfter dueAfter marked lastOr flatten
+unfolding progressAfter dueAfter marked lastOr flatten firstTwo
 start-is = refl
 
 -- ---- The first fault

@@ -50,10 +50,10 @@ module _ {before : List (List ℕ)} (o : Ordered before) (line : List ℕ) where
   P = progressAfter before
 
   formed-tested : Formed before line → formKeeps P line ≡ true
-  formed-tested (says, reads, counts) = reads-form P reads counts
+  formed-tested (held, says, reads, counts) = reads-form P reads counts
 
   limited-tested : Limited before line → valuesKeep P line ≡ true
-  limited-tested (says, reads, within) = values-kept-when-within P line says reads .1 within
+  limited-tested (held, says, reads, counts, within) = values-kept-when-within P line held says reads counts .1 within
 
   pub tested : Bytes line → Tested before line (lineRead P line) (lineAnswer P line)
   unfolding progressAfter
@@ -70,18 +70,18 @@ module _ {before : List (List ℕ)} (o : Ordered before) (line : List ℕ) where
       go false l true m true t false f limited v =
           breaks (malformed (ltb-false 700 (length line) l) (turn-plain o t) (λ formed. true-not-false (formed-tested formed) f))
       go false l true m true t true f limited v =
-          let reads = form-kept-when-reads P line bytes .0 f in last limited v (reads .0) (reads .1) (reads .2)
+          let reads = form-kept-when-reads P line bytes .0 f in last limited v (reads .0) (reads .1) (reads .2) (reads .3)
         where
-          last : (limited : Bool) → valuesKeep P line ≡ limited → (says : Line) → Reads line says → CountsMatch P says →
+          last : (limited : Bool) → valuesKeep P line ≡ limited → (held : Bool) (says : Line) → Reads held line says → CountsMatch P held says →
               Tested before line (lineRead P line) (answerBy false true true true limited (lineRead P line))
-          last true v says reads counts = good (record {
+          last true v held says reads counts = good (record {
             short = ltb-false 700 (length line) l;
             in-turn = turn-plain o t;
-            formed = (says, reads, counts);
-            limited = (says, reads, values-kept-when-within P line says reads .0 v);
+            formed = (held, says, reads, counts);
+            limited = (held, says, reads, counts, values-kept-when-within P line held says reads counts .0 v);
           })
-          last false v says reads counts =
-              breaks (outside (ltb-false 700 (length line) l) (turn-plain o t) (says, reads, counts) (λ limited. true-not-false (limited-tested limited) v))
+          last false v held says reads counts =
+              breaks (outside (ltb-false 700 (length line) l) (turn-plain o t) (held, says, reads, counts) (λ limited. true-not-false (limited-tested limited) v))
 
   pub breaks-tested : Bytes line → {number : ℕ} → Breaks before line number → lineAnswer P line ≡ refused number
   unfolding progressAfter
@@ -96,7 +96,8 @@ module _ {before : List (List ℕ)} (o : Ordered before) (line : List ℕ) where
       let unformed = false-unless (formKeeps P line) (λ f. other (form-kept-when-reads P line bytes .0 f)) in
       line-answer P line ∙ rw (le-ltb 700 (length line) h, turn-is-known turn, turn-tested o turn, unformed)
   breaks-tested bytes (outside h turn formed other) =
-      let unlimited = false-unless (valuesKeep P line) (λ v. other (formed .0, formed .1, values-kept-when-within P line (formed .0) (formed .1) .0 v)) in
+      let (held, says, reads, counts) = formed in
+      let unlimited = false-unless (valuesKeep P line) (λ v. other (held, says, reads, counts, values-kept-when-within P line held says reads counts .0 v)) in
       line-answer P line ∙ rw (le-ltb 700 (length line) h, turn-is-known turn, turn-tested o turn, formed-tested formed, unlimited)
 
   pub good-tested : Good before line → lineAnswer P line ≡ replied (lineRead P line)

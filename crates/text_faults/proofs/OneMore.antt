@@ -12,7 +12,7 @@ use borrow.Author.Tests.{eq-eqb, ne-eqb}
 use Rattle.model.proofs.Tests.{eqb-cases}
 use Rattle.townfile.specs.Numbers.{decimal}
 use Rattle.townfile.specs.Grammar.{Named}
-use Rattle.townfile.specs.Lines.{markTN, markFN, markJN, markAR, markOf, numbersOf, numberField, lineRead}
+use Rattle.townfile.specs.Lines.{markTN, markFN, markJN, markAR, beginsHeld, markOf, numbersOf, numberField, lineRead}
 use Rattle.townfile.specs.Tables.{marked, namedOf, arcOf, townIn, namesIn, arcsIn}
 use Rattle.townfile.specs.declared.progress.Progress.{Progress}
 use Rattle.text_faults.specs.Faulty.{Stands, lastOr, dueAfter, progressAfter}
@@ -43,13 +43,17 @@ nextNumber named = suc (named .number)
 abbrev unnamed : List Named → ℕ
 unnamed names = lastOr 0 (map nextNumber names)
 
-abbrev progress : (turn junctions intervals unnamed arcs : ℕ) → Progress
-progress turn junctions intervals unnamed arcs = record { turn = turn; junctions = junctions; intervals = intervals; unnamed = unnamed; arcs = arcs }
+arcs-counted : (lines : List (List ℕ)) → length (arcsIn lines) ≡ count markAR lines
+arcs-counted lines = length-map (marked markAR lines) (arcOf (getD (townIn lines) 1 0))
 
-same-progress : {turn turn′ junctions junctions′ intervals intervals′ unnamed unnamed′ arcs arcs′ : ℕ} →
-    turn ≡ turn′ → junctions ≡ junctions′ → intervals ≡ intervals′ → unnamed ≡ unnamed′ → arcs ≡ arcs′ →
-    progress turn junctions intervals unnamed arcs ≡ progress turn′ junctions′ intervals′ unnamed′ arcs′
-same-progress t j i u a = rw (t, j, i, u, a)
+abbrev progress : (turn : ℕ) (held : Bool) (junctions intervals unnamed arcs : ℕ) → Progress
+progress turn held junctions intervals unnamed arcs =
+    record { turn = turn; held = held; junctions = junctions; intervals = intervals; unnamed = unnamed; arcs = arcs }
+
+same-progress : {turn turn′ : ℕ} {held held′ : Bool} {junctions junctions′ intervals intervals′ unnamed unnamed′ arcs arcs′ : ℕ} →
+    turn ≡ turn′ → held ≡ held′ → junctions ≡ junctions′ → intervals ≡ intervals′ → unnamed ≡ unnamed′ → arcs ≡ arcs′ →
+    progress turn held junctions intervals unnamed arcs ≡ progress turn′ held′ junctions′ intervals′ unnamed′ arcs′
+same-progress t h j i u a = rw (t, h, j, i, u, a)
 
 module _ {before : List (List ℕ)} (o : Ordered before) (line : List ℕ) where
   abbrev more : List (List ℕ)
@@ -85,8 +89,16 @@ module _ {before : List (List ℕ)} (o : Ordered before) (line : List ℕ) where
   unnamed-same : (markOf line ≡ markJN → ⊥) → unnamed (namesIn before) ≡ unnamed (namesIn more)
   unnamed-same other = ap (λ lines. unnamed (map namedOf lines)) (sym (without-mark markJN other))
 
+  form-same : (markOf line ≡ markTN → ⊥) → beginsHeld (getD (marked markTN before) 0 []) ≡ beginsHeld (getD (marked markTN more) 0 [])
+  form-same other = ap (λ lines. beginsHeld (getD lines 0 [])) (sym (without-mark markTN other))
+
   arcs-same : (markOf line ≡ markAR → ⊥) → length (arcsIn before) ≡ length (arcsIn more)
-  arcs-same other = ap (λ lines. length (map arcOf lines)) (sym (without-mark markAR other))
+  arcs-same other = arcs-counted before ∙ ap length (sym (without-mark markAR other)) ∙ sym (arcs-counted more)
+
+  form-said : markOf line ≡ markTN → (Stands markTN before → ⊥) → beginsHeld line ≡ beginsHeld (getD (marked markTN more) 0 [])
+  form-said is none =
+      let first : marked markTN before ≡ [] = none-there (marked markTN before) none in
+      ap (λ lines. beginsHeld (getD lines 0 [])) (sym (with-mark markTN is ∙ ap (λ lines. lines ++ (line ∷ [])) first))
 
   town-said : markOf line ≡ markTN → (Stands markTN before → ⊥) → numbersOf line ≡ townIn more
   unfolding flatten
@@ -106,7 +118,7 @@ module _ {before : List (List ℕ)} (o : Ordered before) (line : List ℕ) where
       next ∙ sym (ap (lastOr 0) before-and-own ∙ last-is 0 (suc number) (map nextNumber (namesIn before)))
 
   arc-said : markOf line ≡ markAR → length (arcsIn before) + 1 ≡ length (arcsIn more)
-  arc-said is = omega (arith, counted markAR is, length-map (marked markAR before) arcOf, length-map (marked markAR more) arcOf)
+  arc-said is = omega (arith, counted markAR is, arcs-counted before, arcs-counted more)
 
   -- A line in its turn leaves the progress of the lines with it.
   pub after-line : InTurn before (markOf line) → lineRead (progressAfter before) line ≡ progressAfter more
@@ -120,24 +132,28 @@ module _ {before : List (List ℕ)} (o : Ordered before) (line : List ℕ) where
       go (first-town is none) was due =
           let numbers = town-said is none in
           rw is
-          (same-progress (omega (arith, counted markTN is, counted markFN is, counted markAR is)) (ap (λ n. getD n 0 0) numbers) (ap (λ n. getD n 1 0) numbers)
+          (same-progress (omega (arith, counted markTN is, counted markFN is, counted markAR is)) (form-said is none) (ap (λ n. getD n 0 0) numbers) (ap (λ n. getD n 1 0) numbers)
           (unnamed-same (λ e. omega (arith, is, e))) (arcs-same (λ e. omega (arith, is, e))))
       go (first-fences is town none) was due =
+          let form = form-same (λ e. omega (arith, is, e)) in
           let same = counts-same (λ e. omega (arith, is, e)) in
           rw is
-          (same-progress (omega (arith, counted markTN is, counted markFN is, counted markAR is)) (same 0) (same 1)
+          (same-progress (omega (arith, counted markTN is, counted markFN is, counted markAR is)) form (same 0) (same 1)
           (unnamed-same (λ e. omega (arith, is, e))) (arcs-same (λ e. omega (arith, is, e))))
       go (junction-before-arcs is fences none) was due =
+          let form = form-same (λ e. omega (arith, is, e)) in
           let same = counts-same (λ e. omega (arith, is, e)) in
           rw is
-          (same-progress (omega (arith, counted markTN is, counted markFN is, counted markAR is)) (same 0) (same 1) (name-said is) (arcs-same (λ e. omega (arith, is, e))))
+          (same-progress (omega (arith, counted markTN is, counted markFN is, counted markAR is)) form (same 0) (same 1) (name-said is) (arcs-same (λ e. omega (arith, is, e))))
       go (arc-after-fences is fences) was due =
+          let form = form-same (λ e. omega (arith, is, e)) in
           let same = counts-same (λ e. omega (arith, is, e)) in
           rw is
-          (same-progress (omega (arith, counted markTN is, counted markFN is, counted markAR is)) (same 0) (same 1)
+          (same-progress (omega (arith, counted markTN is, counted markFN is, counted markAR is)) form (same 0) (same 1)
           (unnamed-same (λ e. omega (arith, is, e))) (arc-said is))
       go (any-comment is) was due =
+          let form = form-same (λ e. omega (arith, is, e)) in
           let same = counts-same (λ e. omega (arith, is, e)) in
           rw is
-          (same-progress (omega (arith, counted markTN is, counted markFN is, counted markAR is)) (same 0) (same 1)
+          (same-progress (omega (arith, counted markTN is, counted markFN is, counted markAR is)) form (same 0) (same 1)
           (unnamed-same (λ e. omega (arith, is, e))) (arcs-same (λ e. omega (arith, is, e))))

@@ -4,14 +4,14 @@
 -- end: 27, `TN` or `FN` missing, at line count + 1." What 23, 25 and 26 ask of a line stands in LineFaults.
 use Prim.Native.Nat.{ℕ, suc, _≤_, _<_}
 use mathlib.Core.Path.{_≡_}
-use mathlib.Core.Bool.{cond}
+use mathlib.Core.Bool.{Bool, cond}
 use mathlib.Core.List.{List, [], _∷_, _++_, map}
 use mathlib.Core.Logic.{_↔_}
 use lib.Dec.{ltb}
 use lib.ListN.{length, getD}
 use Rattle.townfile.specs.Bytes.{lineFeed}
 use Rattle.townfile.specs.Grammar.{Bytes, Line, Reads, Unbroken, joined}
-use Rattle.townfile.specs.Lines.{markTN, markFN, markJN, markAR, markCM, markOf, townDue, fencesDue, namesDue, arcsDue}
+use Rattle.townfile.specs.Lines.{markTN, markFN, markJN, markAR, markCM, beginsHeld, markOf, townDue, fencesDue, namesDue, arcsDue}
 use Rattle.townfile.specs.LineFaults.{Known, CountsMatch, WithinLimits}
 use Rattle.townfile.specs.FirstFault.{refusedAt}
 use Rattle.townfile.specs.Tables.{marked, townIn, namesIn, arcsIn}
@@ -36,10 +36,11 @@ dueAfter lines =
     (cond (ltb 0 (length (marked markFN lines))) namesDue
     (cond (ltb 0 (length (marked markTN lines))) fencesDue townDue))
 
--- The counts of the `TN`, one more than the number of the last `JN`, and how many `AR` there are.
+-- The form and the counts of the `TN`, one more than the number of the last `JN`, and how many `AR` there are. `TW` stands for `TN`.
 unfoldable pub progressAfter : List (List ℕ) → Progress
 progressAfter lines = record {
   turn = dueAfter lines;
+  held = beginsHeld (getD (marked markTN lines) 0 []);
   junctions = getD (townIn lines) 0 0;
   intervals = getD (townIn lines) 1 0;
   unnamed = lastOr 0 (map (λ named. suc (named .number)) (namesIn lines));
@@ -56,13 +57,14 @@ pub data InTurn (before : List (List ℕ)) (mark : ℕ) : Type 0 where
   arc-after-fences : mark ≡ markAR → Stands markFN before → InTurn before mark
   any-comment : mark ≡ markCM → InTurn before mark
 
--- 25: it reads as some line, with the right number of fields.
+-- 25: it reads as some line in one of the forms, with the right number of fields.
 abbrev pub Formed : List (List ℕ) → List ℕ → Type 0
-Formed before line = (says : Line) × Reads line says × CountsMatch (progressAfter before) says
+Formed before line = (held : Bool) × (says : Line) × Reads held line says × CountsMatch (progressAfter before) held says
 
--- 26: what it says is within the limits.
+-- 26: and what it says is within the limits.
 abbrev pub Limited : List (List ℕ) → List ℕ → Type 0
-Limited before line = (says : Line) × Reads line says × WithinLimits (progressAfter before) says
+Limited before line =
+    (held : Bool) × (says : Line) × Reads held line says × CountsMatch (progressAfter before) held says × WithinLimits (progressAfter before) says
 
 pub record Good (before : List (List ℕ)) (line : List ℕ) : Type 0 where
   pub short : length line ≤ 700

@@ -54,7 +54,7 @@ module _ (text : List ℕ) (source departure : ℕ) where
         go (accepted progress) f =
             (let (town, described) = faultless-described bytes f in
             let same = answer-described (λ N. networkLabelling N source departure) text described in
-            (networkOf town, described-is-accepted text town described, labelled-so (networkOf town) source departure (sym same ∙ e)))
+            (networkOf town, described-is-accepted text (progress .held) town described, labelled-so (networkOf town) source departure (sym same ∙ e)))
 
     pub labels-found : {count : ℕ} {labels predecessors : List ℕ} (before before′ : List ℕ) → accepted count ≡ junctionCount reading →
         labels ≡ labelsAfter reading before → predecessors ≡ predecessorsAfter reading before′ → Labels count labels predecessors

@@ -1,7 +1,5 @@
 // Load, and Labels in what it loaded.
 ghost use mathlib.Core.Path.{_≡_};
-ghost use Prim.Native.Nat.{_≤_};
-ghost use Rattle.model.specs.Limits.{maxArcs};
 ghost use Rattle.townfile.specs.Load.{counts, LongEnough, networkAt};
 ghost use Rattle.townfile.specs.Lent.{lentTables, tablesIn};
 ghost use Rattle.labelling.specs.Labels.{outcomeOf};
@@ -32,27 +30,25 @@ fn labels_in_tables(
     tails: &[u16],
     heads: &[u16],
     lengths: &[u32],
+    holds: &[u16],
     speeds: &[u8],
     source: u32,
     departure: u32,
     labels: &mut [u32],
     predecessors: &mut [u16],
 ) -> Labelled
-    requires { ⌜ arcs ≤ maxArcs ⌝ }
-    requires { ⌜ LongEnough (counts junctions intervals arcs) (tablesIn fences tails heads lengths speeds) ⌝ }
+    requires { ⌜ LongEnough (counts junctions intervals arcs) (tablesIn fences tails heads lengths holds speeds) ⌝ }
     ensures answer { λ r. ⌜ outcomeOf r ≡
-        answerWithin (networkAt (counts junctions intervals arcs) (lentTables fences tails heads lengths speeds)) source departure
+        answerWithin (networkAt (counts junctions intervals arcs) (lentTables fences tails heads lengths holds speeds)) source departure
         (now (labels .entry)) (now (predecessors .entry)) ⌝ }
     ensures labels { λ _. ⌜ now (labels .exit) ≡
-        labelsWithin (networkAt (counts junctions intervals arcs) (lentTables fences tails heads lengths speeds)) source departure
+        labelsWithin (networkAt (counts junctions intervals arcs) (lentTables fences tails heads lengths holds speeds)) source departure
         (now (labels .entry)) (now (predecessors .entry)) ⌝ }
     ensures predecessors { λ _. ⌜ now (predecessors .exit) ≡
-        predecessorsWithin (networkAt (counts junctions intervals arcs) (lentTables fences tails heads lengths speeds)) source departure
+        predecessorsWithin (networkAt (counts junctions intervals arcs) (lentTables fences tails heads lengths holds speeds)) source departure
         (now (labels .entry)) (now (predecessors .entry)) ⌝ }
 {
     let speed_count = arcs * intervals;
-    // Town files have hold 0.
-    let holds = [0u16; MAX_ARCS];
     labels_within(
         junctions,
         &fences[..intervals],
@@ -83,6 +79,7 @@ pub fn town_labels(
     let mut tails = [0u16; MAX_ARCS];
     let mut heads = [0u16; MAX_ARCS];
     let mut lengths = [0u32; MAX_ARCS];
+    let mut holds = [0u16; MAX_ARCS];
     let mut speeds = [0u8; MAX_ARCS * MAX_INTERVALS];
     match load(
         text,
@@ -90,6 +87,7 @@ pub fn town_labels(
         &mut tails,
         &mut heads,
         &mut lengths,
+        &mut holds,
         &mut speeds,
     ) {
         Loaded::Refused { refusal, line } => TownLabelled::Refused { refusal, line },
@@ -105,6 +103,7 @@ pub fn town_labels(
             &tails,
             &heads,
             &lengths,
+            &holds,
             &speeds,
             source,
             departure,

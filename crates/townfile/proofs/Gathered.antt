@@ -1,20 +1,15 @@
 -- The town that lines give is the one they say: comments give nothing, and the lines of a town in order give that town.
 use Prim.Native.Nat.{ℕ}
 use mathlib.Core.Path.{_≡_, refl}
+use mathlib.Core.Bool.{Bool}
 use mathlib.Core.List.{List, [], _∷_, _++_, map, flatten, append-nil}
-use native.Mathlib.Omega.{arith}
-use lib.Dec.{eqb}
-use lib.ListN.{length, getD, length-map, List·getD-append}
-use borrow.Author.Tests.{eqb-true}
-use Rattle.model.specs.Rules.{every}
-use Rattle.model.proofs.Rules.{true-both}
-use Rattle.townfile.specs.Numbers.{numberKeeps}
-use Rattle.townfile.specs.Grammar.{Named, Arc, Town, Line, TN, FN, JN, AR, CM, Reads, ReadsAll, no-lines, reads-line, withoutComments, inOrder}
-use Rattle.townfile.specs.Lines.{markOf, markAlone, fieldsOf, numbersOf, numbersKeep, formKeeps}
-use Rattle.townfile.specs.FirstFault.{start}
-use Rattle.townfile.specs.Tables.{marked, townIn, fencesIn, namesIn, arcsIn, namedOf, arcOf}
+use lib.ListN.{length, getD}
+use Rattle.townfile.specs.Grammar.{Named, Arc, Town, Each, Line, TN, FN, JN, AR, CM, ReadsAll, no-lines, reads-line, withoutComments, inOrder}
+use Rattle.townfile.specs.Lines.{markAR, firstTwo, markOf, numbersOf}
+use Rattle.townfile.specs.Tables.{marked, townIn, fencesIn, namesIn, namedOf, arcOf}
+use Rattle.townfile.specs.declared.progress.Progress.{Progress}
 use Rattle.townfile.proofs.Says.{saysOf}
-use Rattle.townfile.proofs.LineForm.{reads-says, reads-mark, reads-form}
+use Rattle.townfile.proofs.LineForm.{reads-says, reads-mark, reads-town}
 
 -- The town of some lines' values, each put in front of what the later ones say.
 unfoldable pub townSaid : List Line → Town
@@ -50,36 +45,104 @@ pub town-said : (say : List Line) (T : Town) → withoutComments say ≡ inOrder
 unfolding townSaid
 town-said say T e = rw (comments-say-nothing say, e, names-said (T .names) (T .arcs), append-nil)
 
+-- The numbers of the beginning, and the count of an arc's speeds, said by each.
+unfoldable pub countsSaid : List Line → List ℕ
+countsSaid [] = []
+countsSaid (TN junctions intervals ∷ say) = junctions ∷ intervals ∷ countsSaid say
+countsSaid (FN fences ∷ say) = countsSaid say
+countsSaid (JN named ∷ say) = countsSaid say
+countsSaid (AR arc ∷ say) = countsSaid say
+countsSaid (CM ∷ say) = countsSaid say
+
+unfoldable pub PerInterval : ℕ → List Line → Type 0
+PerInterval n [] = Unit {0}
+PerInterval n (TN junctions intervals ∷ say) = PerInterval n say
+PerInterval n (FN fences ∷ say) = PerInterval n say
+PerInterval n (JN named ∷ say) = PerInterval n say
+PerInterval n (AR arc ∷ say) = (length (arc .speeds) ≡ n) × PerInterval n say
+PerInterval n (CM ∷ say) = PerInterval n say
+
+comments-count-nothing : (say : List Line) → countsSaid say ≡ countsSaid (withoutComments say)
+unfolding countsSaid withoutComments
+comments-count-nothing [] = refl
+comments-count-nothing (TN junctions intervals ∷ say) = rw (comments-count-nothing say)
+comments-count-nothing (FN fences ∷ say) = comments-count-nothing say
+comments-count-nothing (JN named ∷ say) = comments-count-nothing say
+comments-count-nothing (AR arc ∷ say) = comments-count-nothing say
+comments-count-nothing (CM ∷ say) = comments-count-nothing say
+
+comments-per-interval : (n : ℕ) (say : List Line) → PerInterval n (withoutComments say) → PerInterval n say
+unfolding PerInterval withoutComments
+comments-per-interval n [] per = per
+comments-per-interval n (TN junctions intervals ∷ say) per = comments-per-interval n say per
+comments-per-interval n (FN fences ∷ say) per = comments-per-interval n say per
+comments-per-interval n (JN named ∷ say) per = comments-per-interval n say per
+comments-per-interval n (AR arc ∷ say) per = (per .0, comments-per-interval n say (per .1))
+comments-per-interval n (CM ∷ say) per = comments-per-interval n say per
+
+arcs-count : (arcs : List Arc) → countsSaid (map AR arcs) ≡ []
+unfolding countsSaid
+arcs-count [] = refl
+arcs-count (arc ∷ arcs) = arcs-count arcs
+
+names-count : (names : List Named) (arcs : List Arc) → countsSaid (map JN names ++ map AR arcs) ≡ []
+unfolding countsSaid
+names-count [] arcs = arcs-count arcs
+names-count (named ∷ names) arcs = names-count names arcs
+
+pub town-counts-said : (say : List Line) (T : Town) → withoutComments say ≡ inOrder T → countsSaid say ≡ T .junctions ∷ length (T .fences) ∷ []
+unfolding countsSaid
+town-counts-said say T e = rw (comments-count-nothing say, e, names-count (T .names) (T .arcs))
+
+arcs-per-interval : (n : ℕ) (arcs : List Arc) → Each (λ a. length (a .speeds) ≡ n) arcs → PerInterval n (map AR arcs)
+unfolding PerInterval Each
+arcs-per-interval n [] each = tt
+arcs-per-interval n (arc ∷ arcs) each = (each .0, arcs-per-interval n arcs (each .1))
+
+names-per-interval : (n : ℕ) (names : List Named) (arcs : List Arc) → Each (λ a. length (a .speeds) ≡ n) arcs → PerInterval n (map JN names ++ map AR arcs)
+unfolding PerInterval
+names-per-interval n [] arcs each = arcs-per-interval n arcs each
+names-per-interval n (named ∷ names) arcs each = names-per-interval n names arcs each
+
+pub town-per-interval : (say : List Line) (T : Town) → withoutComments say ≡ inOrder T →
+    Each (λ a. length (a .speeds) ≡ length (T .fences)) (T .arcs) → PerInterval (length (T .fences)) say
+unfolding PerInterval
+town-per-interval say T e each = comments-per-interval (length (T .fences)) say (rw e (names-per-interval (length (T .fences)) (T .names) (T .arcs) each))
+
 -- ---- Lines
 
-abbrev townFrom : List (List ℕ) → Town
-townFrom lines = record { junctions = getD (townIn lines) 0 0; fences = fencesIn lines; names = namesIn lines; arcs = arcsIn lines }
+abbrev pub townFrom : (intervals : ℕ) → List (List ℕ) → Town
+townFrom intervals lines = record { junctions = getD (townIn lines) 0 0; fences = fencesIn lines; names = namesIn lines; arcs = map (arcOf intervals) (marked markAR lines) }
 
--- The first number of a `TN` line is the first of all that stands behind the mark.
-first-number : {line : List ℕ} {junctions intervals : ℕ} (more : List ℕ) → Reads line (TN junctions intervals) → getD (numbersOf line ++ more) 0 0 ≡ getD (numbersOf line) 0 0
-unfolding formKeeps
-first-number {line} more reads =
-    let form = true-both (markAlone line) (numbersKeep 2 line) (rw (reads-mark reads) at (reads-form start reads tt)) in
-    let count = eqb-true (length (fieldsOf line)) 2 (true-both (every numberKeeps (fieldsOf line)) (eqb (length (fieldsOf line)) 2) (form .1) .1) in
-    List·getD-append (numbersOf line) more 0 0 (rw length-map (omega arith))
+pub counts-given : {held : Bool} {lines : List (List ℕ)} {say : List Line} → ReadsAll held lines say → townIn (lines ++ ([] ∷ [])) ≡ countsSaid say
+unfolding countsSaid marked flatten markOf firstTwo
+counts-given no-lines = refl
+counts-given (reads-line {says = TN junctions intervals} short reads all) = rw (reads-mark reads, reads-town reads, counts-given all)
+counts-given (reads-line {says = FN fences} short reads all) = rw (reads-mark reads) (counts-given all)
+counts-given (reads-line {says = JN named} short reads all) = rw (reads-mark reads) (counts-given all)
+counts-given (reads-line {says = AR arc} short reads all) = rw (reads-mark reads) (counts-given all)
+counts-given (reads-line {says = CM} short reads all) = rw (reads-mark reads) (counts-given all)
 
-pub lines-give : {lines : List (List ℕ)} {say : List Line} → ReadsAll lines say → townFrom (lines ++ ([] ∷ [])) ≡ townSaid say
-unfolding townSaid marked flatten markOf saysOf
-lines-give no-lines = refl
-lines-give (reads-line {bytes = line} {says = TN junctions intervals} {lines = lines} short reads all) =
-    let said : TN (getD (numbersOf line) 0 0) (getD (numbersOf line) 1 0) ≡ TN junctions intervals = rw (reads-mark reads) at (reads-says reads) in
-    let first : getD (numbersOf line) 0 0 ≡ junctions = cc in
-    rw (reads-mark reads, ← (lines-give all), first-number (townIn (lines ++ ([] ∷ []))) reads, first)
-lines-give (reads-line {bytes = line} {says = FN fences} short reads all) =
-    let said : FN (numbersOf line) ≡ FN fences = rw (reads-mark reads) at (reads-says reads) in
+-- A progress in one of the forms, with these intervals.
+abbrev behind : Bool → ℕ → Progress
+behind held n = record { turn = 0; held = held; junctions = 0; intervals = n; unnamed = 0; arcs = 0 }
+
+pub lines-give : (n : ℕ) {held : Bool} {lines : List (List ℕ)} {say : List Line} → ReadsAll held lines say → PerInterval n say →
+    townFrom n (lines ++ ([] ∷ [])) ≡ townSaid say
+unfolding townSaid PerInterval marked flatten markOf firstTwo saysOf
+lines-give n no-lines per = refl
+lines-give n (reads-line {bytes = line} {says = TN junctions intervals} short reads all) per =
+    rw (reads-mark reads, ← (lines-give n all per), reads-town reads)
+lines-give n {held} (reads-line {bytes = line} {says = FN fences} short reads all) per =
+    let said : FN (numbersOf line) ≡ FN fences = rw (reads-mark reads) at (reads-says (behind held (length fences)) reads refl) in
     let same : numbersOf line ≡ fences = cc in
-    rw (reads-mark reads, ← (lines-give all), same)
-lines-give (reads-line {bytes = line} {says = JN named} short reads all) =
-    let said : JN (namedOf line) ≡ JN named = rw (reads-mark reads) at (reads-says reads) in
+    rw (reads-mark reads, ← (lines-give n all per), same)
+lines-give n {held} (reads-line {bytes = line} {says = JN named} short reads all) per =
+    let said : JN (namedOf line) ≡ JN named = rw (reads-mark reads) at (reads-says (behind held n) reads tt) in
     let same : namedOf line ≡ named = cc in
-    rw (reads-mark reads, ← (lines-give all), ← same)
-lines-give (reads-line {bytes = line} {says = AR arc} short reads all) =
-    let said : AR (arcOf line) ≡ AR arc = rw (reads-mark reads) at (reads-says reads) in
-    let same : arcOf line ≡ arc = cc in
-    rw (reads-mark reads, ← (lines-give all), ← same)
-lines-give (reads-line {says = CM} short reads all) = rw (reads-mark reads) (lines-give all)
+    rw (reads-mark reads, ← (lines-give n all per), ← same)
+lines-give n {held} (reads-line {bytes = line} {says = AR arc} short reads all) per =
+    let said : AR (arcOf n line) ≡ AR arc = rw (reads-mark reads) at (reads-says (behind held n) reads (refl, per .0)) in
+    let same : arcOf n line ≡ arc = cc in
+    rw (reads-mark reads, ← (lines-give n all (per .1)), ← same)
+lines-give n (reads-line {says = CM} short reads all) per = rw (reads-mark reads) (lines-give n all per)

@@ -23,6 +23,7 @@ pub record ArcTested (junctions intervals : ℕ) (arc : Arc) : Type 0 where
   pub ends-keep : endsDiffer junctions (arc .tail) (arc .head) ≡ true
   pub length-keeps : lengthKeeps (arc .metres) ≡ true
   pub speeds-keep : every speedKeeps (arc .speeds) ≡ true
+  pub hold-keeps : holdKeeps (arc .hold) ≡ true
   pub per-interval : length (arc .speeds) ≡ intervals
 
 -- The names from a least number on.
@@ -47,23 +48,25 @@ every-append test (x ∷ xs) ys = rw (every-append test xs ys) (sym (and-assoc (
 
 module _ (junctions intervals : ℕ) where
   arcs-parted : (arcs : List Arc) → endsKeep junctions (map (λ a. a .tail) arcs) (map (λ a. a .head) arcs) ≡ true → every lengthKeeps (map (λ a. a .metres) arcs) ≡ true →
-      every speedKeeps (flatten (map (λ a. a .speeds) arcs)) ≡ true → Each (λ a. length (a .speeds) ≡ intervals) arcs → Each (ArcTested junctions intervals) arcs
+      every speedKeeps (flatten (map (λ a. a .speeds) arcs)) ≡ true → every holdKeeps (map (λ a. a .hold) arcs) ≡ true → Each (λ a. length (a .speeds) ≡ intervals) arcs →
+      Each (ArcTested junctions intervals) arcs
   unfolding endsKeep every flatten Each
-  arcs-parted [] ends lengths speeds counts = tt
-  arcs-parted (arc ∷ arcs) ends lengths speeds counts =
+  arcs-parted [] ends lengths speeds holds counts = tt
+  arcs-parted (arc ∷ arcs) ends lengths speeds holds counts =
       let end = true-both (endsDiffer junctions (arc .tail) (arc .head)) (endsKeep junctions (map (λ a. a .tail) arcs) (map (λ a. a .head) arcs)) ends in
       let metres = true-both (lengthKeeps (arc .metres)) (every lengthKeeps (map (λ a. a .metres) arcs)) lengths in
+      let hold = true-both (holdKeeps (arc .hold)) (every holdKeeps (map (λ a. a .hold) arcs)) holds in
       let later = flatten (map (λ a. a .speeds) arcs) in
       let speed = true-both (every speedKeeps (arc .speeds)) (every speedKeeps later) (sym (every-append speedKeeps (arc .speeds) later) ∙ speeds) in (
-        record { ends-keep = end .0; length-keeps = metres .0; speeds-keep = speed .0; per-interval = counts .0 },
-        arcs-parted arcs (end .1) (metres .1) (speed .1) (counts .1),
+        record { ends-keep = end .0; length-keeps = metres .0; speeds-keep = speed .0; hold-keeps = hold .0; per-interval = counts .0 },
+        arcs-parted arcs (end .1) (metres .1) (speed .1) (hold .1) (counts .1),
       )
 
   -- What the tests on the arcs' tables say together.
   record ArcsKept (arcs : List Arc) : Type 0 where
     ends : endsKeep junctions (map (λ a. a .tail) arcs) (map (λ a. a .head) arcs) ≡ true
     lengths : every lengthKeeps (map (λ a. a .metres) arcs) ≡ true
-    holds : every holdKeeps (map (λ a. 0) arcs) ≡ true
+    holds : every holdKeeps (map (λ a. a .hold) arcs) ≡ true
     speeds : every speedKeeps (flatten (map (λ a. a .speeds) arcs)) ≡ true
     counts : Each (λ a. length (a .speeds) ≡ intervals) arcs
     count : length (flatten (map (λ a. a .speeds) arcs)) ≡ length arcs * intervals
@@ -76,7 +79,7 @@ module _ (junctions intervals : ℕ) where
       record {
         ends = both-true (kept .0 .ends-keep) (rest .ends);
         lengths = both-true (kept .0 .length-keeps) (rest .lengths);
-        holds = rest .holds;
+        holds = both-true (kept .0 .hold-keeps) (rest .holds);
         speeds = every-append speedKeeps (arc .speeds) (flatten (map (λ a. a .speeds) arcs)) ∙ both-true (kept .0 .speeds-keep) (rest .speeds);
         counts = (kept .0 .per-interval, rest .counts);
         count = rw (length-append, suc-mul, rest .count, kept .0 .per-interval) (omega arith);
@@ -123,7 +126,7 @@ parts-kept {T} parts =
             (
               ap not
                   (both-true
-                  (both-true (both-true (eq-eqb _ _ (as-long (λ a. a .head))) (eq-eqb _ _ (as-long (λ a. a .metres)))) (eq-eqb _ _ (as-long (λ a. 0))))
+                  (both-true (both-true (eq-eqb _ _ (as-long (λ a. a .head))) (eq-eqb _ _ (as-long (λ a. a .metres)))) (eq-eqb _ _ (as-long (λ a. a .hold))))
                   (eq-eqb _ _ speeds-long)),
               (ap not (parts .fences-keep), (ap not (arcs .ends), (ap not (arcs .lengths), (ap not (arcs .speeds), (ap not (arcs .holds), tt))))),
             ),
@@ -142,7 +145,8 @@ pub kept-parts : {T : Town} → TownKept T → PartsKept T
 kept-parts {T} kept =
     let tests = accepted-kept (networkOf T) (kept .network-accepted) in
     let arcs = tests .1 .1 .1 .1 .1 in
-    let parted = arcs-parted (T .junctions) (length (T .fences)) (T .arcs) (not-false _ (arcs .0)) (not-false _ (arcs .1 .0)) (not-false _ (arcs .1 .1 .0)) in
+    let parted =
+    arcs-parted (T .junctions) (length (T .fences)) (T .arcs) (not-false _ (arcs .0)) (not-false _ (arcs .1 .0)) (not-false _ (arcs .1 .1 .0)) (not-false _ (arcs .1 .1 .1 .0)) in
     record {
       junctions-keep = not-false (junctionsKeep (T .junctions)) (tests .0);
       count-keeps = not-false (countKeeps (T .fences)) (tests .1 .0);

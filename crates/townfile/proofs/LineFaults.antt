@@ -1,25 +1,26 @@
 -- 25 and 26 in the grammar's terms. The form: a line that keeps it has a known mark, so that it reads; and a line that reads keeps it. The
 -- values: the test on a line's bytes is one on what the line says, and each of its parts is a limit.
-use Prim.Native.Nat.{ℕ, _+_}
+use Prim.Native.Nat.{ℕ}
 use mathlib.Core.Path.{_≡_, refl, ap, sym, _∙_}
 use mathlib.Core.Bool.{Bool, true, false, cond, not, _&&_}
 use mathlib.Core.List.{List}
+use native.Mathlib.Omega.{arith}
 use lib.Dec.{leb, ltb, eqb}
 use lib.ListN.{getD, drop}
-use borrow.Author.Tests.{not-true, ltb-true, leb-true, eqb-false, lt-ltb, le-leb, ne-eqb}
-use Rattle.model.specs.Limits.{maxJunctions, maxIntervals, maxArcs, maxSpeed}
+use borrow.Author.Tests.{not-true, ltb-true, leb-true, eqb-false, lt-ltb, le-leb, eq-eqb, ne-eqb}
+use Rattle.model.specs.Limits.{maxJunctions, maxIntervals, maxArcs, maxHold, maxSpeed}
 use Rattle.model.specs.NetworkRules.{junctionsKeep}
 use Rattle.model.specs.Rules.{every, speedKeeps}
 use Rattle.model.proofs.Rules.{true-both, both-true, kept-length, length-kept, every-at, at-every, fences-kept, kept-fences}
 use Rattle.townfile.specs.Bytes.{printable}
 use Rattle.townfile.specs.Numbers.{numberKeeps}
 use Rattle.townfile.specs.Grammar.{Arc, Line, TN, FN, JN, AR, CM}
-use Rattle.townfile.specs.Lines.{markTN, markFN, markJN, markAR, markCM, markOf, byMark, known, townDue, fencesDue, namesDue, inTurn}
-use Rattle.townfile.specs.Lines.{markAlone, numbersKeep, numberField, nameField, nameKeeps, formKeeps}
+use Rattle.townfile.specs.Lines.{markTN, markFN, markJN, markAR, markCM, beginsHeld, markOf, byMark, known, townDue, fencesDue, namesDue, inTurn}
+use Rattle.townfile.specs.Lines.{arcFields, markAlone, numbersKeep, numberField, nameField, nameKeeps, formKeeps}
 use Rattle.townfile.specs.LineFaults.{TownWithin, ArcWithin, WithinLimits, FormKeptWhenReads, ValuesKeptWhenWithin}
 use Rattle.townfile.specs.declared.progress.Progress.{Progress}
 use Rattle.townfile.proofs.Says.{saysOf}
-use Rattle.townfile.proofs.LineForm.{form-reads, form-counts, reads-form, reads-says}
+use Rattle.townfile.proofs.LineForm.{OfForm, form-reads, form-counts, reads-form, reads-says}
 use Rattle.townfile.proofs.Order.{saidKeeps, arc-limits, values-said}
 
 -- ---- The form
@@ -44,12 +45,24 @@ form-known : (p : Progress) (line : List ℕ) → formKeeps p line ≡ true → 
 unfolding formKeeps
 form-known p line kept =
     by-mark-known (markOf line) (numbersKeep 2 line) (numbersKeep (p .intervals) line) (numberKeeps (numberField line) && nameKeeps (nameField line))
-    (numbersKeep (3 + p .intervals) line) (every printable (drop 2 line)) (true-both (markAlone line) _ kept .1)
+    (numbersKeep (arcFields p) line) (every printable (drop 2 line)) (true-both (markAlone line) _ kept .1)
+
+-- The form that a line is of by itself, or by the lines before it.
+formFor : Progress → List ℕ → Bool
+formFor p line = cond (eqb (markOf line) markTN) (beginsHeld line) (p .held)
+
+form-for : (p : Progress) (line : List ℕ) → OfForm p (formFor p line) line
+unfolding formFor
+form-for p line = ((λ is. rw (eq-eqb (markOf line) markTN is)), (λ is. rw (ne-eqb (markOf line) markTN (λ e. omega (arith, is, e)))))
 
 pub form-kept-when-reads : FormKeptWhenReads
 form-kept-when-reads p line bytes = (
-  (λ kept. let mark = form-known p line kept in (saysOf line, form-reads p line bytes mark kept, form-counts p line mark kept)),
-  (λ read. reads-form p (read .1) (read .2)),
+  (λ kept.
+      let mark = form-known p line kept in
+      let own = form-for p line in
+      let held = formFor p line in
+      (held, saysOf (p .intervals) line, form-reads p held line own bytes mark kept, form-counts p held line own mark kept)),
+  (λ read. reads-form p (read .2) (read .3)),
 )
 
 -- ---- The values
@@ -84,8 +97,9 @@ arc-within p arc e =
       ends-differ = eqb-false (arc .tail) (arc .head) (not-true (eqb (arc .tail) (arc .head)) (differ .1));
       some-length = metres .0;
       length-fits = metres .1;
+      hold-fits = leb-true (arc .hold) maxHold (limits .3);
       speed-fits = λ k h. leb-true (getD (arc .speeds) k 0) maxSpeed (every-at speedKeeps 0 (arc .speeds) (limits .2) k h);
-      arcs-fit = limits .3;
+      arcs-fit = limits .4;
     }
 
 within-arc : (p : Progress) (arc : Arc) → ArcWithin p arc → saidKeeps p (AR arc) ≡ true
@@ -93,7 +107,8 @@ within-arc p arc w =
     let below = both-true (lt-ltb (arc .tail) (p .junctions) (w .tail-below)) (lt-ltb (arc .head) (p .junctions) (w .head-below)) in
     let ends = both-true below (ap not (ne-eqb (arc .tail) (arc .head) (w .ends-differ))) in
     let speeds = at-every speedKeeps 0 (arc .speeds) (λ k h. le-leb (getD (arc .speeds) k 0) maxSpeed (w .speed-fits k h)) in
-    both-true (both-true (both-true ends (length-kept (arc .metres) (w .some-length) (w .length-fits))) speeds) (lt-ltb (p .arcs) maxArcs (w .arcs-fit))
+    let hold = le-leb (arc .hold) maxHold (w .hold-fits) in
+    both-true (both-true (both-true (both-true ends (length-kept (arc .metres) (w .some-length) (w .length-fits))) speeds) hold) (lt-ltb (p .arcs) maxArcs (w .arcs-fit))
 
 said-within : (p : Progress) (says : Line) → saidKeeps p says ≡ true → WithinLimits p says
 said-within p (TN junctions intervals) e = town-within junctions intervals e
@@ -112,6 +127,6 @@ within-said p (AR arc) w = within-arc p arc w
 within-said p CM w = refl
 
 pub values-kept-when-within : ValuesKeptWhenWithin
-values-kept-when-within p line says reads =
-    let same = ap (saidKeeps p) (sym (reads-says reads)) ∙ values-said p line in
+values-kept-when-within p line held says reads counts =
+    let same = ap (saidKeeps p) (sym (reads-says p reads counts)) ∙ values-said p line in
     ((λ kept. said-within p says (same ∙ kept)), (λ within. sym same ∙ within-said p says within))

@@ -27,25 +27,27 @@ false-both false b e = (refl, e)
 both-false : {a b : Bool} → a ≡ false → b ≡ false → (a || b) ≡ false
 both-false p q = rw (p, q)
 
-all-false : (a b c d e : Bool) → (a || b || c || d || e) ≡ false → (a ≡ false) × (b ≡ false) × (c ≡ false) × (d ≡ false) × (e ≡ false)
-all-false a b c d e h =
-    let fifth = false-both (a || b || c || d) e h in
+all-false : (a b c d e f : Bool) → (a || b || c || d || e || f) ≡ false → (a ≡ false) × (b ≡ false) × (c ≡ false) × (d ≡ false) × (e ≡ false) × (f ≡ false)
+all-false a b c d e f h =
+    let sixth = false-both (a || b || c || d || e) f h in
+    let fifth = false-both (a || b || c || d) e (sixth .0) in
     let fourth = false-both (a || b || c) d (fifth .0) in
     let third = false-both (a || b) c (fourth .0) in
     let first = false-both a b (third .0) in
-    (first .0, first .1, third .1, fourth .1, fifth .1)
+    (first .0, first .1, third .1, fourth .1, fifth .1, sixth .1)
 
 module _ (T : Town) (lent : Tables) where
   fits-long : tooShort (countsOfTown T) lent ≡ false → LongEnough (countsOfTown T) lent
   fits-long e =
       let N = networkOf T in
-      let all = all-false _ _ _ _ _ e in
+      let all = all-false _ _ _ _ _ _ e in
       record {
         fences-long = ltb-false (length (lent .fences)) (intervals N) (all .0);
         tails-long = ltb-false (length (lent .tails)) (arcs N) (all .1);
         heads-long = ltb-false (length (lent .heads)) (arcs N) (all .2);
         lengths-long = ltb-false (length (lent .lengths)) (arcs N) (all .3);
-        speeds-long = ltb-false (length (lent .speeds)) (arcs N * intervals N) (all .4);
+        holds-long = ltb-false (length (lent .holds)) (arcs N) (all .4);
+        speeds-long = ltb-false (length (lent .speeds)) (arcs N * intervals N) (all .5);
       }
 
   pub long-fits : LongEnough (countsOfTown T) lent → tooShort (countsOfTown T) lent ≡ false
@@ -54,16 +56,18 @@ module _ (T : Town) (lent : Tables) where
       both-false
       (both-false
       (both-false
+      (both-false
       (both-false (le-ltb (length (lent .fences)) (intervals N) (long .fences-long)) (le-ltb (length (lent .tails)) (arcs N) (long .tails-long)))
       (le-ltb (length (lent .heads)) (arcs N) (long .heads-long)))
       (le-ltb (length (lent .lengths)) (arcs N) (long .lengths-long)))
+      (le-ltb (length (lent .holds)) (arcs N) (long .holds-long)))
       (le-ltb (length (lent .speeds)) (arcs N * intervals N) (long .speeds-long))
 
 -- ---- The counts
 
-town-counts : (T : Town) → countsOf (afterAll start (inOrder T)) ≡ countsOfTown T
-town-counts T =
-    let counted = town-counted T in
+town-counts : (held : Bool) (T : Town) → countsOf (afterAll held start (inOrder T)) ≡ countsOfTown T
+town-counts held T =
+    let counted = town-counted held T in
     rw (counted .junctions-counted, counted .intervals-counted, counted .arcs-counted, length-map (T .arcs) (λ a. a .tail))
 
 -- The answer from the counts, by whether a table is too short.
@@ -83,21 +87,21 @@ answer-refused false counts number line e = absurd (let z : _≡_ {A = ℕ} 0 1 
 
 -- ---- Load
 
-pub described-answer : {text : List ℕ} {T : Town} (lent : Tables) → Describes text T → loadAnswer text lent ≡ answerFor (countsOfTown T) lent
+pub described-answer : {text : List ℕ} {held : Bool} {T : Town} (lent : Tables) → Describes text held T → loadAnswer text lent ≡ answerFor (countsOfTown T) lent
 unfolding loadAnswer
-described-answer {T = T} lent described = rw (described-faultless described) (ap (λ counts. answerFor counts lent) (town-counts T))
+described-answer {held = held} {T} lent described = rw (described-faultless described) (ap (λ counts. answerFor counts lent) (town-counts held T))
 
 -- An answer that no fault of a text gives is given of a town.
 described-unless-fault : {text : List ℕ} (lent : Tables) {answer : Reading Counts} → Bytes text → loadAnswer text lent ≡ answer →
-    ((number line : ℕ) → Fault number → refusedAt number line ≡ answer → ⊥) → (T : Town) × Describes text T
+    ((number line : ℕ) → Fault number → refusedAt number line ≡ answer → ⊥) → (held : Bool) × (T : Town) × Describes text held T
 unfolding loadAnswer
 described-unless-fault {text} lent {answer} bytes e no-fault = go (firstFault text) refl e
   where
-    go : (reading : Reading Progress) → firstFault text ≡ reading → intoTables reading lent ≡ answer → (T : Town) × Describes text T
+    go : (reading : Reading Progress) → firstFault text ≡ reading → intoTables reading lent ≡ answer → (held : Bool) × (T : Town) × Describes text held T
     go (refusedAt number line) r e = absurd (no-fault number line (text-fault text number line r) e)
-    go (accepted p) r e = faultless-described bytes r
+    go (accepted p) r e = let found = faultless-described bytes r in (p .held, found .0, found .1)
 
-holds-town : {text : List ℕ} {T : Town} (lent : Tables) (counts : Counts) → Describes text T → loadAnswer text lent ≡ accepted counts →
+holds-town : {text : List ℕ} {held : Bool} {T : Town} (lent : Tables) (counts : Counts) → Describes text held T → loadAnswer text lent ≡ accepted counts →
     tablesAfter text lent ≡ holding (networkOf T) lent
 unfolding tablesAfter
 holds-town lent counts described e = rw (e, described-town described)
@@ -106,10 +110,10 @@ pub load-accepts-when-described : LoadAcceptsWhenDescribed
 load-accepts-when-described text bytes lent counts = (
   (λ e.
       let found = described-unless-fault lent bytes e (λ number line fault e. let z : _≡_ {A = ℕ} 0 1 = cc in omega arith) in
-      let T = found .0 in
-      let answer = answer-accepted (tooShort (countsOfTown T) lent) (countsOfTown T) counts (sym (described-answer lent (found .1)) ∙ e) in
-      (T, found .1, fits-long T lent (answer .0), answer .1, holds-town lent counts (found .1) e)),
-  (λ loaded. described-answer lent (loaded .1) ∙ rw (long-fits (loaded .0) lent (loaded .2), loaded .3)),
+      let (held, T, described) = found in
+      let answer = answer-accepted (tooShort (countsOfTown T) lent) (countsOfTown T) counts (sym (described-answer lent described) ∙ e) in
+      (held, T, described, fits-long T lent (answer .0), answer .1, holds-town lent counts described e)),
+  (λ loaded. described-answer lent (loaded .2) ∙ rw (long-fits (loaded .1) lent (loaded .3), loaded .4)),
 )
 
 -- A table is too short exactly where not each is long enough.
@@ -130,8 +134,8 @@ pub too-short-when-described : TooShortWhenDescribed
 too-short-when-described text bytes lent line = (
   (λ e.
       let found = described-unless-fault lent bytes e (λ number line fault e. let same : number ≡ 28 = cc in omega arith) in
-      let T = found .0 in
-      let answer = answer-refused (tooShort (countsOfTown T) lent) (countsOfTown T) 28 line (sym (described-answer lent (found .1)) ∙ e) in
-      (answer .1, (T, found .1, short-not-long T lent (answer .0)))),
-  (λ short. described-answer lent (short .1 .1) ∙ rw (not-long-short (short .1 .0) lent (short .1 .2), short .0)),
+      let (held, T, described) = found in
+      let answer = answer-refused (tooShort (countsOfTown T) lent) (countsOfTown T) 28 line (sym (described-answer lent described) ∙ e) in
+      (answer .1, (held, T, described, short-not-long T lent (answer .0)))),
+  (λ short. described-answer lent (short .1 .2) ∙ rw (not-long-short (short .1 .1) lent (short .1 .3), short .0)),
 )

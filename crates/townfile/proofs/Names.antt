@@ -1,6 +1,7 @@
 -- The names of a text: they rise, so the first that bears a junction's number is its only one, and none that was read is empty.
 use Prim.Native.Nat.{ℕ, _+_, _≤_, _<_}
 use mathlib.Core.Path.{_≡_, refl, _∙_}
+use mathlib.Core.Bool.{Bool}
 use mathlib.Core.List.{List, [], _∷_}
 use native.Mathlib.Omega.{arith}
 use lib.ListN.{length}
@@ -43,10 +44,10 @@ none-found junction (named ∷ names) others = rw (ne-eqb (named .number) juncti
 
 -- ---- No name is empty
 
-name-some : {line : List ℕ} {named : Named} → Reads line (JN named) → 0 < length (named .name)
+name-some : {held : Bool} {line : List ℕ} {named : Named} → Reads held line (JN named) → 0 < length (named .name)
 name-some (junction-line number name) = name .some-byte
 
-names-some : {lines : List (List ℕ)} {say : List Line} → ReadsAll lines say → Each (λ n. 0 < length (n .name)) (townSaid say .names)
+names-some : {held : Bool} {lines : List (List ℕ)} {say : List Line} → ReadsAll held lines say → Each (λ n. 0 < length (n .name)) (townSaid say .names)
 unfolding Each townSaid
 names-some no-lines = tt
 names-some (reads-line {says = TN junctions intervals} short reads all) = names-some all
@@ -57,12 +58,12 @@ names-some (reads-line {says = CM} short reads all) = names-some all
 
 -- ---- Name
 
-name-among : {text : List ℕ} {T : Town} (junction : ℕ) → Describes text T → nameOf text junction ≡ nameAmong junction (T .names)
+name-among : {text : List ℕ} {held : Bool} {T : Town} (junction : ℕ) → Describes text held T → nameOf text junction ≡ nameAmong junction (T .names)
 unfolding nameOf
 name-among junction described = rw (described-faultless described, described-town described)
 
 pub name-gives-names : NameGivesNames
-name-gives-names text T described = record {
+name-gives-names text held T described = record {
   each-named = each-with (T .names) (λ n found some. (name-among (n .number) described ∙ found .1, some))
       (names-found (T .junctions) 0 (T .names) (kept-parts (described .kept) .names-kept))
       (rw (town-said (described .say) T (described .in-order)) at (names-some (described .each-reads)));
@@ -75,4 +76,4 @@ name-of-no-town text bytes none junction = go (firstFault text) refl
   where
     go : (reading : Reading Progress) → firstFault text ≡ reading → ifRead reading (nameAmong junction (townOf text .names)) [] ≡ []
     go (refusedAt number line) r = refl
-    go (accepted p) r = let found = faultless-described bytes r in absurd (none (found .0) (found .1))
+    go (accepted p) r = let found = faultless-described bytes r in absurd (none (p .held) (found .0) (found .1))

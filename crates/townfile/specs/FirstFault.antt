@@ -1,7 +1,7 @@
 -- "20, text too long, at line 0. Then the first faulty line, counted from 1, and on it the first of: 21, no LF; 22 [to 26]. At the
 -- end: 27, `TN` or `FN` missing, at line count + 1."
 use Prim.Native.Nat.{ℕ, suc}
-use mathlib.Core.Bool.{cond}
+use mathlib.Core.Bool.{false, cond}
 use mathlib.Core.List.{List, [], _∷_}
 use lib.Dec.{ltb, eqb}
 use lib.ListN.{length}
@@ -16,7 +16,7 @@ pub data Reading (Reply : Type 0) : Type 0 where
   accepted : Reply → Reading Reply
 
 abbrev pub start : Progress
-start = record { turn = townDue; junctions = 0; intervals = 0; unnamed = 0; arcs = 0 }
+start = record { turn = townDue; held = false; junctions = 0; intervals = 0; unnamed = 0; arcs = 0 }
 
 -- After the last line: its number is one more than the line count.
 abbrev pub atEnd : Progress → ℕ → Reading Progress

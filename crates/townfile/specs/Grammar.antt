@@ -1,6 +1,9 @@
--- The grammar of the town file: which text describes which town. It says what a file is and nothing of how one is read.
+-- The grammar of the town file: which text describes which town. It says what a file is and nothing of how one is read. Document 02, order 6:
+-- "The new form begins with `TW` where the old has `TN`, and each `AR` line ends with one more number, the hold." `held` says that a file is of
+-- the new form.
 use Prim.Native.Nat.{ℕ, suc, _≤_, _<_}
 use mathlib.Core.Path.{_≡_}
+use mathlib.Core.Bool.{Bool, true, false}
 use mathlib.Core.List.{List, [], _∷_, _++_, map, flatten}
 use lib.ListN.{length, getD}
 use Rattle.model.specs.Network.{Network, Accepted}
@@ -50,6 +53,7 @@ pub record Arc : Type 0 where
   pub head : ℕ
   pub metres : ℕ
   pub speeds : List ℕ
+  pub hold : ℕ
 
 pub record Town : Type 0 where
   pub junctions : ℕ
@@ -57,7 +61,7 @@ pub record Town : Type 0 where
   pub names : List Named
   pub arcs : List Arc
 
--- The town's network: a table for each of the arcs' fields, and "the speeds arc by arc". Document 02, order 5: "Town files so far (..) have hold 0".
+-- The town's network: a table for each of the arcs' fields, and "the speeds arc by arc".
 abbrev pub networkOf : Town → Network
 networkOf T = record {
   junctions = T .junctions;
@@ -65,7 +69,7 @@ networkOf T = record {
   tails = map (λ a. a .tail) (T .arcs);
   heads = map (λ a. a .head) (T .arcs);
   lengths = map (λ a. a .metres) (T .arcs);
-  holds = map (λ a. 0) (T .arcs);
+  holds = map (λ a. a .hold) (T .arcs);
   speeds = flatten (map (λ a. a .speeds) (T .arcs));
 }
 
@@ -94,21 +98,26 @@ pub data Line : Type 0 where
   AR : Arc → Line
   CM : Line
 
--- The bytes of a line, before its line feed, and what they say. The two bytes of each mark stand for its letters.
-pub data Reads : List ℕ → Line → Type 0 where
-  town-line : {bytes : List ℕ} {junctions intervals : ℕ} → Fields bytes (junctions ∷ intervals ∷ []) → Reads (84 ∷ 78 ∷ bytes) (TN junctions intervals)
-  fences-line : {bytes numbers : List ℕ} → Fields bytes numbers → Reads (70 ∷ 78 ∷ bytes) (FN numbers)
-  junction-line : {bytes name : List ℕ} {n : ℕ} → Number bytes n → Name name → Reads (74 ∷ 78 ∷ space ∷ (bytes ++ (space ∷ name))) (JN (record { number = n; name = name }))
+-- The bytes of a line, before its line feed, and what they say, in either form. The two bytes of each mark stand for its letters. "The old one has
+-- hold 0 throughout."
+pub data Reads : (held : Bool) → List ℕ → Line → Type 0 where
+  town-line : {bytes : List ℕ} {junctions intervals : ℕ} → Fields bytes (junctions ∷ intervals ∷ []) → Reads false (84 ∷ 78 ∷ bytes) (TN junctions intervals)
+  held-town-line : {bytes : List ℕ} {junctions intervals : ℕ} → Fields bytes (junctions ∷ intervals ∷ []) → Reads true (84 ∷ 87 ∷ bytes) (TN junctions intervals)
+  fences-line : {held : Bool} {bytes numbers : List ℕ} → Fields bytes numbers → Reads held (70 ∷ 78 ∷ bytes) (FN numbers)
+  junction-line : {held : Bool} {bytes name : List ℕ} {n : ℕ} → Number bytes n → Name name →
+      Reads held (74 ∷ 78 ∷ space ∷ (bytes ++ (space ∷ name))) (JN (record { number = n; name = name }))
   arc-line : {bytes speeds : List ℕ} {tail head metres : ℕ} → Fields bytes (tail ∷ head ∷ metres ∷ speeds) →
-      Reads (65 ∷ 82 ∷ bytes) (AR (record { tail = tail; head = head; metres = metres; speeds = speeds }))
-  bare-comment : Reads (67 ∷ 77 ∷ []) CM
-  comment-line : {bytes : List ℕ} → Printable bytes → Reads (67 ∷ 77 ∷ space ∷ bytes) CM
+      Reads false (65 ∷ 82 ∷ bytes) (AR (record { tail = tail; head = head; metres = metres; speeds = speeds; hold = 0 }))
+  held-arc-line : {bytes speeds : List ℕ} {tail head metres hold : ℕ} → Fields bytes (tail ∷ head ∷ metres ∷ (speeds ++ (hold ∷ []))) →
+      Reads true (65 ∷ 82 ∷ bytes) (AR (record { tail = tail; head = head; metres = metres; speeds = speeds; hold = hold }))
+  bare-comment : {held : Bool} → Reads held (67 ∷ 77 ∷ []) CM
+  comment-line : {held : Bool} {bytes : List ℕ} → Printable bytes → Reads held (67 ∷ 77 ∷ space ∷ bytes) CM
 
 -- "A line has at most 700 bytes before its LF."
-pub data ReadsAll : List (List ℕ) → List Line → Type 0 where
-  no-lines : ReadsAll [] []
+pub data ReadsAll (held : Bool) : List (List ℕ) → List Line → Type 0 where
+  no-lines : ReadsAll held [] []
   reads-line : {bytes : List ℕ} {says : Line} {lines : List (List ℕ)} {say : List Line} →
-      length bytes ≤ 700 → Reads bytes says → ReadsAll lines say → ReadsAll (bytes ∷ lines) (says ∷ say)
+      length bytes ≤ 700 → Reads held bytes says → ReadsAll held lines say → ReadsAll held (bytes ∷ lines) (says ∷ say)
 
 -- No line feed inside.
 abbrev pub Unbroken : List ℕ → Type 0
@@ -130,19 +139,23 @@ withoutComments (JN named ∷ lines) = JN named ∷ withoutComments lines
 withoutComments (AR arc ∷ lines) = AR arc ∷ withoutComments lines
 withoutComments (CM ∷ lines) = withoutComments lines
 
--- "One `TN`, one `FN`, then any `JN`, then any `AR`, in that order", and "the fences, as many as intervals".
+-- "One `TN`[, or `TW`], one `FN`, then any `JN`, then any `AR`, in that order", and "the fences, as many as intervals".
 abbrev pub inOrder : Town → List Line
 inOrder T = TN (T .junctions) (length (T .fences)) ∷ FN (T .fences) ∷ (map JN (T .names) ++ map AR (T .arcs))
 
--- A text describes a town.
-pub record Describes (text : List ℕ) (T : Town) : Type 0 where
+-- A text describes a town, in the old form or in the new.
+pub record Describes (text : List ℕ) (held : Bool) (T : Town) : Type 0 where
   pub short-enough : length text ≤ 65536
   pub lines : List (List ℕ)
   pub in-lines : text ≡ joined lines
   pub say : List Line
-  pub each-reads : ReadsAll lines say
+  pub each-reads : ReadsAll held lines say
   pub in-order : withoutComments say ≡ inOrder T
   pub kept : TownKept T
+
+-- A text describes a town, in either form.
+abbrev pub DescribesTown : List ℕ → Town → Type 0
+DescribesTown text T = (held : Bool) × Describes text held T
 
 -- ---- Comments
 
@@ -150,4 +163,4 @@ pub record Describes (text : List ℕ) (T : Town) : Type 0 where
 pub data Commented : List (List ℕ) → List (List ℕ) → Type 0 where
   nothing-added : Commented [] []
   kept-line : {line : List ℕ} {lines more : List (List ℕ)} → Unbroken line → Commented lines more → Commented (line ∷ lines) (line ∷ more)
-  added-comment : {comment : List ℕ} {lines more : List (List ℕ)} → Reads comment CM → length comment ≤ 700 → Commented lines more → Commented lines (comment ∷ more)
+  added-comment : {comment : List ℕ} {lines more : List (List ℕ)} → Reads false comment CM → length comment ≤ 700 → Commented lines more → Commented lines (comment ∷ more)

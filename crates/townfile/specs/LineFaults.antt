@@ -3,17 +3,17 @@
 -- tail equal to head, or the 641st `AR`." The tests themselves stand in Lines.
 use Prim.Native.Nat.{ℕ, _≤_, _<_}
 use mathlib.Core.Path.{_≡_}
-use mathlib.Core.Bool.{true}
+use mathlib.Core.Bool.{Bool, true}
 use mathlib.Core.List.{List}
 use mathlib.Core.Logic.{_↔_}
 use lib.ListN.{length, getD}
 use Rattle.model.specs.Intervals.{FencesKept}
-use Rattle.model.specs.Limits.{maxJunctions, maxIntervals, maxArcs, maxLength, maxSpeed}
+use Rattle.model.specs.Limits.{maxJunctions, maxIntervals, maxArcs, maxLength, maxHold, maxSpeed}
 use Rattle.townfile.specs.Grammar.{Bytes, Arc, Line, TN, FN, JN, AR, CM, Reads}
 use Rattle.townfile.specs.Lines.{markTN, markFN, markJN, markAR, markCM, formKeeps, valuesKeep}
 use Rattle.townfile.specs.declared.progress.Progress.{Progress}
 
--- The five marks.
+-- The five marks, `TW` standing for `TN`.
 pub data Known (mark : ℕ) : Type 0 where
   town-mark : mark ≡ markTN → Known mark
   fences-mark : mark ≡ markFN → Known mark
@@ -21,13 +21,13 @@ pub data Known (mark : ℕ) : Type 0 where
   arc-mark : mark ≡ markAR → Known mark
   comment-mark : mark ≡ markCM → Known mark
 
--- The right number of fields, after the lines before: "the fences, as many as intervals", "one speed per interval".
-abbrev pub CountsMatch : Progress → Line → Type 0
-CountsMatch p (TN junctions intervals) = Unit {0}
-CountsMatch p (FN fences) = length fences ≡ p .intervals
-CountsMatch p (JN named) = Unit {0}
-CountsMatch p (AR arc) = length (arc .speeds) ≡ p .intervals
-CountsMatch p CM = Unit {0}
+-- The right number of fields, after the lines before: "the fences, as many as intervals", "one speed per interval", and a hold in the new form.
+abbrev pub CountsMatch : Progress → Bool → Line → Type 0
+CountsMatch p held (TN junctions intervals) = Unit {0}
+CountsMatch p held (FN fences) = length fences ≡ p .intervals
+CountsMatch p held (JN named) = Unit {0}
+CountsMatch p held (AR arc) = (held ≡ p .held) × (length (arc .speeds) ≡ p .intervals)
+CountsMatch p held CM = Unit {0}
 
 pub record TownWithin (junctions intervals : ℕ) : Type 0 where
   pub some-junction : 1 ≤ junctions
@@ -45,6 +45,7 @@ pub record ArcWithin (p : Progress) (arc : Arc) : Type 0 where
   pub ends-differ : arc .tail ≡ arc .head → ⊥
   pub some-length : 1 ≤ arc .metres
   pub length-fits : arc .metres ≤ maxLength
+  pub hold-fits : arc .hold ≤ maxHold
   pub speed-fits : (k : ℕ) → k < length (arc .speeds) → getD (arc .speeds) k 0 ≤ maxSpeed
   pub arcs-fit : p .arcs < maxArcs
 
@@ -58,10 +59,11 @@ WithinLimits p CM = Unit {0}
 
 -- ---- What is proved of the tests
 
--- A line keeps 25 exactly where it reads as some line whose counts match.
+-- A line keeps 25 exactly where it reads, in one of the forms, as some line whose counts match.
 abbrev pub FormKeptWhenReads : Type 0
-FormKeptWhenReads = (p : Progress) (line : List ℕ) → Bytes line → (formKeeps p line ≡ true) ↔ ((says : Line) × Reads line says × CountsMatch p says)
+FormKeptWhenReads = (p : Progress) (line : List ℕ) → Bytes line → (formKeeps p line ≡ true) ↔ ((held : Bool) × (says : Line) × Reads held line says × CountsMatch p held says)
 
--- A line that reads keeps 26 exactly where what it says is within the limits.
+-- Such a line keeps 26 exactly where what it says is within the limits.
 abbrev pub ValuesKeptWhenWithin : Type 0
-ValuesKeptWhenWithin = (p : Progress) (line : List ℕ) (says : Line) → Reads line says → (valuesKeep p line ≡ true) ↔ WithinLimits p says
+ValuesKeptWhenWithin = (p : Progress) (line : List ℕ) (held : Bool) (says : Line) → Reads held line says → CountsMatch p held says →
+    (valuesKeep p line ≡ true) ↔ WithinLimits p says

@@ -6,10 +6,10 @@ use Prim.Native.Nat.{ℕ, _+_, _-_, _*_}
 use mathlib.Core.Bool.{Bool, true, false, cond, not, _&&_}
 use mathlib.Core.List.{List, [], _∷_, map}
 use lib.Dec.{leb, ltb, eqb}
-use lib.ListN.{length, getD, drop}
+use lib.ListN.{length, getD, take, drop}
 use Rattle.model.specs.Limits.{maxArcs, maxIntervals}
 use Rattle.model.specs.NetworkRules.{junctionsKeep}
-use Rattle.model.specs.Rules.{Outcome, Rule, _if_, firstBroken, every, fencesKeep, lengthKeeps, speedKeeps}
+use Rattle.model.specs.Rules.{Outcome, Rule, _if_, firstBroken, every, fencesKeep, lengthKeeps, speedKeeps, holdKeeps}
 use Rattle.townfile.specs.Bytes.{space, printable, upTo, pieces}
 use Rattle.townfile.specs.Numbers.{decimal, numberKeeps}
 use Rattle.townfile.specs.declared.progress.Progress.{Progress}
@@ -19,6 +19,9 @@ use Rattle.townfile.specs.declared.progress.Progress.{Progress}
 -- The marks, each as the number of its two bytes.
 abbrev pub markTN : ℕ
 markTN = 84 * 256 + 78
+
+abbrev pub markTW : ℕ
+markTW = 84 * 256 + 87
 
 abbrev pub markFN : ℕ
 markFN = 70 * 256 + 78
@@ -32,11 +35,19 @@ markAR = 65 * 256 + 82
 abbrev pub markCM : ℕ
 markCM = 67 * 256 + 77
 
--- The mark of a line: its first two bytes as one number, or 0 where there are not two.
+-- The first two bytes of a line as one number, or 0 where there are not two.
+unfoldable pub firstTwo : List ℕ → ℕ
+firstTwo [] = 0
+firstTwo (a ∷ []) = 0
+firstTwo (a ∷ b ∷ bytes) = a * 256 + b
+
+-- The line begins with `TW`: the file is of the new form.
+abbrev pub beginsHeld : List ℕ → Bool
+beginsHeld line = eqb (firstTwo line) markTW
+
+-- The mark of a line, "`TW` standing for `TN`".
 unfoldable pub markOf : List ℕ → ℕ
-markOf [] = 0
-markOf (a ∷ []) = 0
-markOf (a ∷ b ∷ bytes) = a * 256 + b
+markOf line = cond (beginsHeld line) markTN (firstTwo line)
 
 -- "The loader decides what to do by the mark": one case for each of `TN`, `FN`, `JN`, `AR`, `CM`, and one for any other.
 abbrev pub byMark : {A : Type 0} → ℕ → A → A → A → A → A → A → A
@@ -94,6 +105,10 @@ nameKeeps name =
     ltb 0 (length name) && leb (length name) 24 && every printable name
     && not (eqb (getD name 0 0) space) && not (eqb (getD name (length name - 1) 0) space)
 
+-- "`AR` tail, head, length, then one speed per interval", and in the new form the hold.
+abbrev pub arcFields : Progress → ℕ
+arcFields p = 3 + p .intervals + cond (p .held) 1 0
+
 unfoldable pub formKeeps : Progress → List ℕ → Bool
 formKeeps p line =
     markAlone line
@@ -101,7 +116,7 @@ formKeeps p line =
     (numbersKeep 2 line)
     (numbersKeep (p .intervals) line)
     (numberKeeps (numberField line) && nameKeeps (nameField line))
-    (numbersKeep (3 + p .intervals) line)
+    (numbersKeep (arcFields p) line)
     (every printable (drop 2 line))
     false
 
@@ -116,11 +131,13 @@ junctionKeeps p junction = ltb junction (p .junctions) && leb (p .unnamed) junct
 abbrev pub endsDiffer : ℕ → ℕ → ℕ → Bool
 endsDiffer junctions tail head = ltb tail junctions && ltb head junctions && not (eqb tail head)
 
+-- Where no hold stands behind the speeds it is 0.
 abbrev pub arcKeeps : Progress → List ℕ → Bool
 arcKeeps p numbers =
     endsDiffer (p .junctions) (getD numbers 0 0) (getD numbers 1 0)
     && lengthKeeps (getD numbers 2 0)
-    && every speedKeeps (drop 3 numbers)
+    && every speedKeeps (take (p .intervals) (drop 3 numbers))
+    && holdKeeps (getD (drop 3 numbers) (p .intervals) 0)
     && ltb (p .arcs) maxArcs
 
 unfoldable pub valuesKeep : Progress → List ℕ → Bool
@@ -145,12 +162,13 @@ lineRules p line =
     ∷ []
 
 -- The progress after a line that keeps the rules.
-abbrev pub afterTown : Progress → List ℕ → Progress
-afterTown p numbers = record { turn = fencesDue; junctions = getD numbers 0 0; intervals = getD numbers 1 0; unnamed = p .unnamed; arcs = p .arcs }
+abbrev pub afterTown : Progress → Bool → List ℕ → Progress
+afterTown p held numbers =
+    record { turn = fencesDue; held = held; junctions = getD numbers 0 0; intervals = getD numbers 1 0; unnamed = p .unnamed; arcs = p .arcs }
 
 -- Behind `TN` a line changes only the turn, the names and the arcs.
 abbrev pub behindTown : Progress → (turn unnamed arcs : ℕ) → Progress
-behindTown p turn unnamed arcs = record { turn = turn; junctions = p .junctions; intervals = p .intervals; unnamed = unnamed; arcs = arcs }
+behindTown p turn unnamed arcs = record { turn = turn; held = p .held; junctions = p .junctions; intervals = p .intervals; unnamed = unnamed; arcs = arcs }
 
 abbrev pub afterFences : Progress → Progress
 afterFences p = behindTown p namesDue (p .unnamed) (p .arcs)
@@ -162,7 +180,7 @@ abbrev pub afterArc : Progress → Progress
 afterArc p = behindTown p arcsDue (p .unnamed) (p .arcs + 1)
 
 unfoldable pub lineRead : Progress → List ℕ → Progress
-lineRead p line = byMark (markOf line) (afterTown p (numbersOf line)) (afterFences p) (afterJunction p (decimal (numberField line))) (afterArc p) p p
+lineRead p line = byMark (markOf line) (afterTown p (beginsHeld line) (numbersOf line)) (afterFences p) (afterJunction p (decimal (numberField line))) (afterArc p) p p
 
 unfoldable pub lineAnswer : Progress → List ℕ → Outcome Progress
 lineAnswer p line = firstBroken (lineRules p line) (lineRead p line)

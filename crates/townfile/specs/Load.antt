@@ -1,5 +1,6 @@
 -- "Load (text; lent tables). 20 [to 27]; 28, a lent table too short, at line 0. Otherwise the junction, interval and arc counts; each
--- table starts with its entries (the speeds arc by arc) and is unchanged after them."
+-- table starts with its entries (the speeds arc by arc) and is unchanged after them." Document 02, order 6: "It fills the lent hold table too, and
+-- 28 covers that table."
 use Prim.Native.Nat.{ℕ, _*_, _≤_}
 use mathlib.Core.Path.{_≡_}
 use mathlib.Core.Bool.{Bool, cond, _||_}
@@ -28,10 +29,12 @@ pub record Tables : Type 0 where
   pub tails : List ℕ
   pub heads : List ℕ
   pub lengths : List ℕ
+  pub holds : List ℕ
   pub speeds : List ℕ
 
-abbrev pub tables : List ℕ → List ℕ → List ℕ → List ℕ → List ℕ → Tables
-tables fences tails heads lengths speeds = record { fences = fences; tails = tails; heads = heads; lengths = lengths; speeds = speeds }
+abbrev pub tables : List ℕ → List ℕ → List ℕ → List ℕ → List ℕ → List ℕ → Tables
+tables fences tails heads lengths holds speeds =
+    record { fences = fences; tails = tails; heads = heads; lengths = lengths; holds = holds; speeds = speeds }
 
 abbrev pub countsOf : Progress → Counts
 countsOf p = counts (p .junctions) (p .intervals) (p .arcs)
@@ -42,6 +45,7 @@ pub record LongEnough (asked : Counts) (lent : Tables) : Type 0 where
   pub tails-long : asked .arcs ≤ length (lent .tails)
   pub heads-long : asked .arcs ≤ length (lent .heads)
   pub lengths-long : asked .arcs ≤ length (lent .lengths)
+  pub holds-long : asked .arcs ≤ length (lent .holds)
   pub speeds-long : asked .arcs * asked .intervals ≤ length (lent .speeds)
 
 -- Tables of zeros with room for every town.
@@ -51,12 +55,9 @@ roomyTables = record {
   tails = replicate maxArcs 0;
   heads = replicate maxArcs 0;
   lengths = replicate maxArcs 0;
+  holds = replicate maxArcs 0;
   speeds = replicate (maxArcs * maxIntervals) 0;
 }
-
--- Load fills no holds: those of a loaded town are zeros, with room for every town.
-abbrev pub noHolds : List ℕ
-noHolds = replicate maxArcs 0
 
 -- The network at the tables' start, of as many entries as the counts say.
 abbrev pub networkAt : Counts → Tables → Network
@@ -66,18 +67,19 @@ networkAt asked held = record {
   tails = take (asked .arcs) (held .tails);
   heads = take (asked .arcs) (held .heads);
   lengths = take (asked .arcs) (held .lengths);
-  holds = take (asked .arcs) noHolds;
+  holds = take (asked .arcs) (held .holds);
   speeds = take (asked .arcs * asked .intervals) (held .speeds);
 }
 
 -- Lengths of tables that are too small for their own entries.
-abbrev pub lacksRoom : ℕ → ℕ → ℕ → ℕ → ℕ → ℕ → ℕ → Bool
-lacksRoom intervals arcs fences tails heads lengths speeds =
-    ltb fences intervals || ltb tails arcs || ltb heads arcs || ltb lengths arcs || ltb speeds (arcs * intervals)
+abbrev pub lacksRoom : ℕ → ℕ → ℕ → ℕ → ℕ → ℕ → ℕ → ℕ → Bool
+lacksRoom intervals arcs fences tails heads lengths holds speeds =
+    ltb fences intervals || ltb tails arcs || ltb heads arcs || ltb lengths arcs || ltb holds arcs || ltb speeds (arcs * intervals)
 
 abbrev pub tooShort : Counts → Tables → Bool
 tooShort asked lent =
-    lacksRoom (asked .intervals) (asked .arcs) (length (lent .fences)) (length (lent .tails)) (length (lent .heads)) (length (lent .lengths)) (length (lent .speeds))
+    lacksRoom (asked .intervals) (asked .arcs) (length (lent .fences)) (length (lent .tails)) (length (lent .heads)) (length (lent .lengths))
+    (length (lent .holds)) (length (lent .speeds))
 
 abbrev pub intoTables : Reading Progress → Tables → Reading Counts
 intoTables (refusedAt number line) lent = refusedAt number line
@@ -93,6 +95,7 @@ holding N lent = record {
   tails = written (N .tails) (lent .tails);
   heads = written (N .heads) (lent .heads);
   lengths = written (N .lengths) (lent .lengths);
+  holds = written (N .holds) (lent .holds);
   speeds = written (N .speeds) (lent .speeds);
 }
 
@@ -114,9 +117,9 @@ countsOfTown T = counts (T .junctions) (intervals (networkOf T)) (arcs (networkO
 abbrev pub LoadAcceptsWhenDescribed : Type 0
 LoadAcceptsWhenDescribed = (text : List ℕ) → Bytes text → (lent : Tables) (reply : Counts) →
     (loadAnswer text lent ≡ accepted reply)
-    ↔ ((T : Town) × Describes text T × LongEnough (countsOfTown T) lent × (reply ≡ countsOfTown T) × (tablesAfter text lent ≡ holding (networkOf T) lent))
+    ↔ ((held : Bool) × (T : Town) × Describes text held T × LongEnough (countsOfTown T) lent × (reply ≡ countsOfTown T) × (tablesAfter text lent ≡ holding (networkOf T) lent))
 
 -- 28 is said, at line 0, exactly of a text that describes a town for which a lent table is too short.
 abbrev pub TooShortWhenDescribed : Type 0
 TooShortWhenDescribed = (text : List ℕ) → Bytes text → (lent : Tables) (line : ℕ) →
-    (loadAnswer text lent ≡ refusedAt 28 line) ↔ ((line ≡ 0) × ((T : Town) × Describes text T × (LongEnough (countsOfTown T) lent → ⊥)))
+    (loadAnswer text lent ≡ refusedAt 28 line) ↔ ((line ≡ 0) × ((held : Bool) × (T : Town) × Describes text held T × (LongEnough (countsOfTown T) lent → ⊥)))

@@ -59,11 +59,11 @@ pub record NamesOf (T : Town) (name : ℕ → List ℕ) : Type 0 where
   pub others-none : (junction : ℕ) → Each (λ n. n .number ≡ junction → ⊥) (T .names) → name junction ≡ []
 
 abbrev pub NameGivesNames : Type 0
-NameGivesNames = (text : List ℕ) (T : Town) → Describes text T → NamesOf T (nameOf text)
+NameGivesNames = (text : List ℕ) (held : Bool) (T : Town) → Describes text held T → NamesOf T (nameOf text)
 
 -- Of any other text every name is empty.
 abbrev pub NameOfNoTown : Type 0
-NameOfNoTown = (text : List ℕ) → Bytes text → ((T : Town) → Describes text T → ⊥) → (junction : ℕ) → nameOf text junction ≡ []
+NameOfNoTown = (text : List ℕ) → Bytes text → ((held : Bool) (T : Town) → Describes text held T → ⊥) → (junction : ℕ) → nameOf text junction ≡ []
 
 -- The part lies inside the text, and it is the name.
 pub record StandsAt (text : List ℕ) (place : Part) (name : List ℕ) : Type 0 where

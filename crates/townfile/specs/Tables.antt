@@ -2,11 +2,11 @@
 -- number, then a name (..). `AR` tail, head, length, then one speed per interval."
 use Prim.Native.Nat.{ℕ, _≤_}
 use mathlib.Core.Path.{_≡_}
-use mathlib.Core.Bool.{cond}
+use mathlib.Core.Bool.{Bool, false, cond}
 use mathlib.Core.Logic.{_↔_}
 use mathlib.Core.List.{List, [], _∷_, map, flatten}
 use lib.Dec.{eqb}
-use lib.ListN.{length, getD, drop}
+use lib.ListN.{length, getD, take, drop}
 use Rattle.model.specs.Flow.{spansOf, arrival}
 use Rattle.model.specs.Network.{roadsOf, speedOn, driveOf}
 use Rattle.model.specs.Rules.{replied}
@@ -26,10 +26,17 @@ marked mark (line ∷ lines) = let rest = marked mark lines in cond (eqb (markOf
 abbrev pub namedOf : List ℕ → Named
 namedOf line = record { number = decimal (numberField line); name = nameField line }
 
-abbrev pub arcOf : List ℕ → Arc
-arcOf line = record { tail = getD (numbersOf line) 0 0; head = getD (numbersOf line) 1 0; metres = getD (numbersOf line) 2 0; speeds = drop 3 (numbersOf line) }
+-- With one speed per interval; where no hold stands behind the speeds it is 0.
+abbrev pub arcOf : (intervals : ℕ) → List ℕ → Arc
+arcOf intervals line = let numbers = numbersOf line in record {
+  tail = getD numbers 0 0;
+  head = getD numbers 1 0;
+  metres = getD numbers 2 0;
+  speeds = take intervals (drop 3 numbers);
+  hold = getD (drop 3 numbers) intervals 0;
+}
 
--- The numbers of the `TN` line.
+-- The numbers of the `TN` or `TW` line.
 abbrev pub townIn : List (List ℕ) → List ℕ
 townIn lines = flatten (map numbersOf (marked markTN lines))
 
@@ -40,7 +47,7 @@ abbrev pub namesIn : List (List ℕ) → List Named
 namesIn lines = map namedOf (marked markJN lines)
 
 abbrev pub arcsIn : List (List ℕ) → List Arc
-arcsIn lines = map arcOf (marked markAR lines)
+arcsIn lines = map (arcOf (getD (townIn lines) 1 0)) (marked markAR lines)
 
 unfoldable pub townOf : List ℕ → Town
 townOf text = let lines = pieces lineFeed text in
@@ -48,24 +55,25 @@ townOf text = let lines = pieces lineFeed text in
 
 -- ---- What is proved of it
 
--- A text describes a town exactly where it has no fault and that town is the one its lines give.
+-- A text describes a town exactly where it has no fault, in the form that it is of, and that town is the one its lines give.
 abbrev pub DescribesWhenFaultless : Type 0
-DescribesWhenFaultless = (text : List ℕ) → Bytes text → (T : Town) →
-    Describes text T ↔ (((p : Progress) × (firstFault text ≡ accepted p)) × (townOf text ≡ T))
+DescribesWhenFaultless = (text : List ℕ) → Bytes text → (held : Bool) (T : Town) →
+    Describes text held T ↔ (((p : Progress) × (firstFault text ≡ accepted p) × (p .held ≡ held)) × (townOf text ≡ T))
 
--- A text describes at most one town.
+-- A text describes at most one town, in one form.
 abbrev pub OneTown : Type 0
-OneTown = (text : List ℕ) (T T′ : Town) → Describes text T → Describes text T′ → T ≡ T′
+OneTown = (text : List ℕ) (held held′ : Bool) (T T′ : Town) → Describes text held T → Describes text held′ T′ → (held ≡ held′) × (T ≡ T′)
 
 -- A text and the same text with comments added anywhere, within the limit, describe the same town.
 abbrev pub CommentsChangeNothing : Type 0
-CommentsChangeNothing = (lines more : List (List ℕ)) → Commented lines more → length (joined more) ≤ 65536 → (T : Town) →
-    Describes (joined lines) T ↔ Describes (joined more) T
+CommentsChangeNothing = (lines more : List (List ℕ)) → Commented lines more → length (joined more) ≤ 65536 → (held : Bool) (T : Town) →
+    Describes (joined lines) held T ↔ Describes (joined more) held T
 
 -- Network check accepts a described town.
 abbrev pub DescribedIsAccepted : Type 0
-DescribedIsAccepted = (text : List ℕ) (T : Town) → Describes text T → networkCheck (networkOf T) ≡ replied tt
+DescribedIsAccepted = (text : List ℕ) (held : Bool) (T : Town) → Describes text held T → networkCheck (networkOf T) ≡ replied tt
 
--- Document 02, order 5: "Town files so far (..) have hold 0": on a town's arcs the arrival is the old one, that of the flow alone.
-abbrev pub TownsAreNotHeld : Type 0
-TownsAreNotHeld = (T : Town) (a t : ℕ) → let R = roadsOf (networkOf T) in driveOf R a t ≡ arrival (speedOn R a) (spansOf (getD (R .lengths) a 0)) t
+-- "The old one has hold 0 throughout": on the arcs of a town in the old form the arrival is that of the flow alone.
+abbrev pub OldTownsAreNotHeld : Type 0
+OldTownsAreNotHeld = (text : List ℕ) (T : Town) → Describes text false T → (a t : ℕ) →
+    let R = roadsOf (networkOf T) in driveOf R a t ≡ arrival (speedOn R a) (spansOf (getD (R .lengths) a 0)) t

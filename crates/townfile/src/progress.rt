@@ -12,6 +12,8 @@ pub struct Progress {
     // The least junction that a JN may still name.
     pub unnamed: u32,
     pub arcs: u32,
+    // The file is of the new form, in which an AR line ends with its hold.
+    pub held: bool,
 }
 
 impl Progress {
@@ -36,13 +38,15 @@ impl Progress {
             intervals: 0,
             unnamed: 0,
             arcs: 0,
+            held: false,
         }
     }
 
-    pub fn after_town(mut self, junctions: u32, intervals: u32) -> Self
-        ensures { λ r. ⌜ r ≡ afterTown self (junctions ∷ intervals ∷ []) ⌝ }
+    pub fn after_town(mut self, held: bool, junctions: u32, intervals: u32) -> Self
+        ensures { λ r. ⌜ r ≡ afterTown self held (junctions ∷ intervals ∷ []) ⌝ }
     {
         self.turn = Self::FENCES_DUE;
+        self.held = held;
         self.junctions = junctions;
         self.intervals = intervals;
         self

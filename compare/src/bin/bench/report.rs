@@ -111,16 +111,20 @@ fn print_rows(measured: &[Measured]) {
 
 fn print_throughput(measured: &[Measured]) {
     println!();
-    println!("| load, bytes per second | Rattle | Rust |");
-    println!("|---|--:|--:|");
+    println!("| bytes per second | town | Rattle | Rust |");
+    println!("|---|---|--:|--:|");
     for Measured {
         row, nanoseconds, ..
     } in measured
     {
-        if row.operation == Operation::Load {
+        if row.operation.reads_a_text() {
             let bytes = row.town.text.len() as f64;
             let [rattle, rust] = nanoseconds.map(|time| bytes / time * 1_000.0);
-            println!("| {} | {rattle:.0} MB/s | {rust:.0} MB/s |", row.town.name);
+            println!(
+                "| {} | {} | {rattle:.0} MB/s | {rust:.0} MB/s |",
+                row.operation.name(),
+                row.town.name,
+            );
         }
     }
 }

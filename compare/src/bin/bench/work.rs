@@ -3,12 +3,16 @@
 use std::hint::black_box;
 
 use compare::inputs::towns::{DEPARTURE, EVENING, SOURCE, Town, departures};
-use compare::operations::{CABINET, Operations, REFERENCE};
-use compare::reference::limits::{FIGURES, MAX_ARCS, MAX_INTERVALS, REFUSED};
+use compare::operations::{CABINET, Converter, Operations, REFERENCE};
+use compare::reference::Form;
+use compare::reference::limits::{FIGURES, MAX_ARCS, MAX_INTERVALS, MAX_TEXT, REFUSED};
 
 #[derive(Clone, Copy, PartialEq)]
 pub enum Operation {
     Load,
+    LoadHeld,
+    ToNew,
+    ToOld,
     Labels,
     LabelsEvening,
     LabelsHeld,
@@ -18,8 +22,11 @@ pub enum Operation {
 }
 
 impl Operation {
-    pub const ALL: [Self; 7] = [
+    pub const ALL: [Self; 10] = [
         Self::Load,
+        Self::LoadHeld,
+        Self::ToNew,
+        Self::ToOld,
         Self::Labels,
         Self::LabelsEvening,
         Self::LabelsHeld,
@@ -31,6 +38,9 @@ impl Operation {
     pub fn name(self) -> &'static str {
         match self {
             Self::Load => "load",
+            Self::LoadHeld => "load-held",
+            Self::ToNew => "to-new",
+            Self::ToOld => "to-old",
             Self::Labels => "labels",
             Self::LabelsEvening => "labels-evening",
             Self::LabelsHeld => "labels-held",
@@ -44,8 +54,17 @@ impl Operation {
     pub fn takes(self, town: &str) -> bool {
         match self {
             Self::Labels | Self::LabelsEvening | Self::LabelsHeld | Self::Sheet => true,
-            Self::Load | Self::Route | Self::HostQuestion => town != "full",
+            Self::Load | Self::LoadHeld | Self::ToNew | Self::ToOld => town != "full",
+            Self::Route | Self::HostQuestion => town != "full",
         }
+    }
+
+    /// Whether it goes through a text once and does nothing else.
+    pub fn reads_a_text(self) -> bool {
+        matches!(
+            self,
+            Self::Load | Self::LoadHeld | Self::ToNew | Self::ToOld
+        )
     }
 }
 
@@ -87,10 +106,13 @@ impl Row {
     pub fn named(operation: &str, town: &str) -> Option<Self> {
         let named = |one: &Operation| one.name() == operation;
         let operation = Operation::ALL.into_iter().find(named)?;
-        let mut town = Town::named(town)?;
-        if operation == Operation::LabelsHeld {
-            town = town.with_holds();
-        }
+        let town = Town::named(town)?;
+        let town = match operation {
+            Operation::LabelsHeld | Operation::LoadHeld => town.with_holds(),
+            Operation::ToNew => town.to_convert(Form::New),
+            Operation::ToOld => town.to_convert(Form::Old),
+            _ => town,
+        };
         Some(Self { operation, town })
     }
 
@@ -110,7 +132,9 @@ impl Row {
     pub fn call(&self, implementation: Implementation) -> Box<dyn FnMut() + '_> {
         let operations = implementation.operations();
         match self.operation {
-            Operation::Load => load(operations, &self.town),
+            Operation::Load | Operation::LoadHeld => load(operations, &self.town),
+            Operation::ToNew => convert(operations.to_new, &self.town),
+            Operation::ToOld => convert(operations.to_old, &self.town),
             Operation::Labels | Operation::LabelsHeld => labels(operations, &self.town, DEPARTURE),
             Operation::LabelsEvening => labels(operations, &self.town, EVENING),
             Operation::Route => route(operations, &self.town),
@@ -125,6 +149,7 @@ fn load<'a>(operations: &'a Operations, town: &'a Town) -> Box<dyn FnMut() + 'a>
     let mut tails = vec![0; MAX_ARCS];
     let mut heads = vec![0; MAX_ARCS];
     let mut lengths = vec![0; MAX_ARCS];
+    let mut holds = vec![0; MAX_ARCS];
     let mut speeds = vec![0; MAX_ARCS * MAX_INTERVALS];
     Box::new(move || {
         let reply = (operations.load)(
@@ -133,8 +158,17 @@ fn load<'a>(operations: &'a Operations, town: &'a Town) -> Box<dyn FnMut() + 'a>
             black_box(&mut tails),
             black_box(&mut heads),
             black_box(&mut lengths),
+            black_box(&mut holds),
             black_box(&mut speeds),
         );
+        assert!(reply.is_ok());
+    })
+}
+
+fn convert<'a>(converter: Converter, town: &'a Town) -> Box<dyn FnMut() + 'a> {
+    let mut output = vec![0; MAX_TEXT];
+    Box::new(move || {
+        let reply = converter(black_box(&town.text), black_box(&mut output));
         assert!(reply.is_ok());
     })
 }

@@ -43,7 +43,7 @@ fn table(labels: &[u32], predecessors: &[u16]) -> String {
 mod tests {
     use super::super::tests;
     use super::*;
-    use crate::inputs::examples::TOWN_TEXT;
+    use crate::inputs::examples::{HELD_TOWN_TEXT, TOWN_TEXT};
 
     fn printed(question: &str, town: &str) -> String {
         tests::printed(arrivals_text, question, town)
@@ -53,6 +53,8 @@ mod tests {
     fn prints_the_papers_town() {
         let expected = "junction arrival arc\n0 10 -\n1 60 0\n2 100 1\n";
         assert_eq!(printed("QU 0 10\n", TOWN_TEXT), expected);
+        let expected = "junction arrival arc\n0 10 -\n1 60 0\n2 117 2\n";
+        assert_eq!(printed("QU 0 10\n", HELD_TOWN_TEXT), expected);
     }
 
     #[test]

@@ -41,7 +41,7 @@ fn lines(figures: &[u32]) -> String {
 mod tests {
     use super::super::tests;
     use super::*;
-    use crate::inputs::examples::TOWN_TEXT;
+    use crate::inputs::examples::{HELD_TOWN_TEXT, TOWN_TEXT};
 
     fn printed(question: &str, town: &str) -> String {
         tests::printed(sheet_text, question, town)
@@ -51,6 +51,8 @@ mod tests {
     fn prints_a_line_for_each_junction() {
         let expected = "0 2 0 0 0\n1 2 50 100 150\n2 2 90 150 240\n";
         assert_eq!(printed("QU 0 100 10\n", TOWN_TEXT), expected);
+        let expected = "0 2 0 0 0\n1 2 50 100 150\n2 2 107 157 264\n";
+        assert_eq!(printed("QU 0 100 10\n", HELD_TOWN_TEXT), expected);
         let expected = "0 0 0 0 0\n1 0 0 0 0\n2 1 0 0 0\n";
         assert_eq!(printed("QU 2 863999\n", TOWN_TEXT), expected);
     }

@@ -1,16 +1,15 @@
 -- What the short reading of speeds tells. It comes to a place behind a number's digits without a look at what stands there, so what
 -- it has read is a speed only if a word ends there. The next space, or the line feed behind the row, shows that it does.
-use Prim.Native.Nat.{ℕ, _+_, _≤_}
+use Prim.Native.Nat.{ℕ, _+_, _-_, _≤_, _<_}
 use mathlib.Core.Path.{_≡_}
 use mathlib.Core.Bool.{true}
 use mathlib.Core.List.{List, []}
 use lib.ListN.{length, getD}
-use Rattle.model.specs.Rules.{every, speedKeeps}
+use Rattle.model.specs.Rules.{speedKeeps}
 use Rattle.townfile.specs.Bytes.{space}
 use Rattle.townfile.specs.Numbers.{decimal, numberKeeps}
 use Rattle.fields.specs.Fields.{wordFrom}
-use Rattle.number_rows.specs.NumbersRead.{numbersRead}
-use Rattle.number_rows.specs.declared.numbers.Numbers.the-variants.{Within}
+use Rattle.number_rows.specs.NumbersRead.{numbersRead, rowKeeps}
 use Rattle.number_rows.specs.declared.speeds.ShortRead.{ShortRead}
 use Rattle.number_rows.specs.declared.speeds.ShortRead.the-variants.{To, Unsure}
 
@@ -34,6 +33,9 @@ pub record ShortField (text : List ℕ) (at end : ℕ) : Type 0 where
   pub gap : getD text at 0 ≡ space
   pub digits : ShortWord text (at + 1) end
 
--- As many speeds as they should be, up to the line's end: what the reading field by field would say.
-abbrev pub ShortRow : List ℕ → ℕ → ℕ → ℕ → Type 0
-ShortRow text at count end = Within end ≡ numbersRead (every speedKeeps) count text at
+-- As many speeds as they should be, up to a place inside the text. If a word ends there, what is left of a row of any length comes to what the
+-- whole row comes to.
+pub record ShortRow (text : List ℕ) (at count end : ℕ) : Type 0 where
+  pub inside : end < length text
+  pub front : (numbers : ℕ) → count ≤ numbers → wordFrom text end ≡ [] →
+      numbersRead (rowKeeps 0) (numbers - count) text end ≡ numbersRead (rowKeeps count) numbers text at

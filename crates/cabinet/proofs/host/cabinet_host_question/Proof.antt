@@ -22,7 +22,7 @@ bytes : (c : tie.After-load) → Bytes (now (begun c .args .text))
 bytes c i h = let text : tie.After-shared-slice-known = search in text .shared-slice-known .given i .fits
 
 abbrev held : tie.After-load → Tables
-held c = let (_, (fences, (tails, (heads, (lengths, (speeds, _)))))) = c .load .last in tables fences tails heads lengths speeds
+held c = let (_, (fences, (tails, (heads, (lengths, (holds, (speeds, _))))))) = c .load .last in tables fences tails heads lengths holds speeds
 
 -- ---- Where the text is loaded
 
@@ -51,7 +51,7 @@ returns c =
     c .load-code .ensures ∙ ap (λ l. afterLoad (readingOf l) 0) told ∙ load-refuses _ _ _ _ (sym (ap readingOf told) ∙ load .load .ensures .0)
 
 route-in-tables-requires : tie.Need-route-in-tables-requires
-route-in-tables-requires c κs = let l : tie.After-loaded = search in (stands l .few-arcs, stands l .long)
+route-in-tables-requires c κs = let l : tie.After-loaded = search in stands l .long
 
 -- what Route comes to in the network of the tables is the answer
 handed-on : (c : tie.After-loaded) → let args = begun (called c) .args in
@@ -87,11 +87,13 @@ cabinet-host-question-spec =
     (λ c. search needs)
     (λ c. search needs)
     (λ c. search needs)
+    (λ c. search needs)
     (λ c κs. search needs)
     (λ c. search needs)
     (λ c. search needs)
     (λ c κs. search needs)
     returns
+    (λ c. search needs)
     (λ c. search needs)
     (λ c. search needs)
     (λ c. search needs)

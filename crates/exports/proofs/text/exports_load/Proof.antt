@@ -24,7 +24,7 @@ abbrev text : tie.After-load → List ℕ
 text c = now (begun c .args .text)
 
 abbrev lent : tie.After-load → Tables
-lent c = let args = begun c .args in tables (now (args .fences)) (now (args .tails)) (now (args .heads)) (now (args .lengths)) (now (args .speeds))
+lent c = let args = begun c .args in tables (now (args .fences)) (now (args .tails)) (now (args .heads)) (now (args .lengths)) (now (args .holds)) (now (args .speeds))
 
 bytes : (c : tie.After-load) → Bytes (text c)
 bytes c i h = let known : tie.After-shared-slice-known = search in known .shared-slice-known .given i .fits
@@ -90,7 +90,9 @@ exports-load-spec =
     (λ c. search needs)
     (λ c. search needs)
     (λ c. search needs)
+    (λ c. search needs)
     returns
+    (λ c. search needs)
     (λ c. search needs)
     (λ c. search needs)
     (λ c. search needs)

@@ -1,47 +1,39 @@
--- `put::put_text`: so far the text's first bytes are put, and at the end all of them.
-use borrow.Author.Needs.{needs}
-use Prim.Native.Nat.{_-_, _≤_}
-use mathlib.Core.Path.{_≡_, refl, _∙_}
+-- `put::put_text`: where the text has no room nothing is asked; else so far its first bytes are put, and at the end all of them.
+use Prim.Native.Nat.{_+_, _-_, _≤_}
+use mathlib.Core.Path.{_≡_, refl}
 use native.Mathlib.Omega.{arith}
-use lib.ListN.{length, take}
+use lib.ListN.{length, take, length-set}
 use Rattle.formatting.specs.Putting.{PutIfRoom}
-use Rattle.formatting.proofs.Putting.{nothing-put, byte-more, all-bytes}
+use Rattle.formatting.proofs.Putting.{byte-more, all-bytes}
 use Rattle.formatting.proofs.put.put_text.Statement.{statement}
 use Rattle.formatting.proofs.put.put_text.Tie as tie
 
 abbrev Inv-loop : tie.InvT-loop
-Inv-loop output₀ at text end₀ i₀ output end i = (i ≤ length text) × (length output ≡ length output₀) × PutIfRoom (take i text) at output₀ output end
+Inv-loop output₀ at text i₀ output i = (i ≤ length text) × (length output ≡ length output₀) × PutIfRoom (take i text) at output₀ output (at + i)
 
 abbrev μ-loop : tie.MeasureT-loop
-μ-loop output₀ at text end₀ i₀ output end i = length text - i
+μ-loop output₀ at text i₀ output i = length text - i
+
+returns : tie.Need-returns Inv-loop μ-loop
+returns c room = absurd (omega (arith, c .if1 .taken))
+
+returns-2 : tie.Need-returns-2 Inv-loop μ-loop
+returns-2 c room = absurd (omega (arith, c .if2 .taken))
 
 loop-holds : tie.Need-loop-holds Inv-loop μ-loop
-loop-holds c = (omega arith, refl, nothing-put _ _)
-
-shared-slice-read-put-byte : tie.Need-shared-slice-read-put-byte Inv-loop μ-loop
-shared-slice-read-put-byte c = omega arith
-
-put-byte-requires : tie.Need-put-byte-requires Inv-loop μ-loop
-put-byte-requires c κs = search needs
-
-add-i : tie.Need-add-i Inv-loop μ-loop
-add-i c = omega arith
-
-loop-less : tie.Need-loop-less Inv-loop μ-loop
-loop-less c = omega arith
+loop-holds c = (omega arith, refl, λ room. record { next = omega arith; holds = refl })
 
 loop-again : tie.Need-loop-again Inv-loop μ-loop
 loop-again c =
-    let called : tie.After-put-byte Inv-loop μ-loop = search in
     let inside : tie.In-loop Inv-loop μ-loop = search in
     let (within, same-length, puts) = inside .before .loop .inv in
-    (omega arith, called .put-byte .kept .0 ∙ same-length, byte-more _ (inside .loop-test .taken) puts (called .put-byte .ensures))
+    (omega arith, simp length-set same-length, byte-more _ (inside .loop-test .taken) puts (λ room. record { next = omega arith; holds = refl }))
 
 same-length : tie.Need-same-length Inv-loop μ-loop
 same-length c = c .before .loop .inv .1
 
-returns : tie.Need-returns Inv-loop μ-loop
-returns c = all-bytes _ (c .loop-test .left) (c .before .loop .inv .2)
+returns-3 : tie.Need-returns-3 Inv-loop μ-loop
+returns-3 c = all-bytes _ (c .loop-test .left) (c .before .loop .inv .2)
 
 pub put-text-spec : {M : Type 1} → statement M
 put-text-spec =
@@ -49,11 +41,16 @@ put-text-spec =
     (tie.spec
     Inv-loop
     μ-loop
+    returns
+    (λ c. omega arith)
+    returns-2
     loop-holds
-    shared-slice-read-put-byte
-    put-byte-requires
-    add-i
-    loop-less
+    (λ c. omega arith)
+    (λ c. omega arith)
+    (λ c. omega arith)
+    (λ c. omega arith)
+    (λ c. omega arith)
     loop-again
+    (λ c. omega arith)
     same-length
-    returns)
+    returns-3)

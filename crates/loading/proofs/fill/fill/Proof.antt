@@ -7,7 +7,8 @@ use mathlib.Core.List.{List}
 use native.Mathlib.Omega.{arith}
 use lib.ListN.{length}
 use denote.Ref.{now}
-use Rattle.townfile.specs.Lines.{markFN, markAR, markOf, known}
+use Rattle.townfile.specs.Lines.{markTW, markFN, markAR, markOf, known}
+use Rattle.townfile.proofs.Marks.{two-mark, mark-two}
 use Rattle.townfile.specs.Load.{tables}
 use Rattle.fields.specs.Fields.{lineFrom}
 use Rattle.loading.specs.code.Filling.{EndsInside}
@@ -18,11 +19,11 @@ use Rattle.loading.proofs.fill.fill.Statement.{statement}
 use Rattle.loading.proofs.fill.fill.Tie as tie
 
 abbrev Inv-loop : tie.InvT-loop
-Inv-loop text intervals fences₀ tails₀ heads₀ lengths₀ speeds₀ at₀ fence₀ arc₀ fences tails heads lengths speeds at fence arc =
-    FilledFrom intervals text (tables fences₀ tails₀ heads₀ lengths₀ speeds₀) at fence arc (tables fences tails heads lengths speeds)
+Inv-loop text intervals held fences₀ tails₀ heads₀ lengths₀ holds₀ speeds₀ at₀ fence₀ arc₀ fences tails heads lengths holds speeds at fence arc =
+    FilledFrom intervals held text (tables fences₀ tails₀ heads₀ lengths₀ holds₀ speeds₀) at fence arc (tables fences tails heads lengths holds speeds)
 
 abbrev μ-loop : tie.MeasureT-loop
-μ-loop text intervals fences₀ tails₀ heads₀ lengths₀ speeds₀ at₀ fence₀ arc₀ fences tails heads lengths speeds at fence arc = length text - at
+μ-loop text intervals held fences₀ tails₀ heads₀ lengths₀ holds₀ speeds₀ at₀ fence₀ arc₀ fences tails heads lengths holds speeds at fence arc = length text - at
 
 loop-holds : tie.Need-loop-holds Inv-loop μ-loop
 loop-holds c = let start : tie.Start Inv-loop μ-loop = search in fillable-starts (start .pre)
@@ -45,9 +46,9 @@ module _ (c : tie.After-mark-at Inv-loop μ-loop) where
   abbrev line : List ℕ
   line = lineFrom text at
 
-  -- the mark is the line's
-  marks : {mark : ℕ} → c .mark-at .result ≡ mark → markOf line ≡ mark
-  marks e = sym (c .mark-at .ensures) ∙ e
+  -- the mark is the line's, where it is not TW
+  marks : {mark : ℕ} → (mark ≡ markTW → ⊥) → c .mark-at .result ≡ mark → markOf line ≡ mark
+  marks other e = two-mark line (sym (c .mark-at .ensures) ∙ e) other
 
   behind : known (markOf line) ≡ true → BehindMark text at
   behind = let bytes : tie.After-shared-slice-known Inv-loop μ-loop = search in behind-mark _ _ (bytes .shared-slice-known .given (at + 1) .fits)
@@ -64,7 +65,7 @@ module _ (c : tie.After-mark-at Inv-loop μ-loop) where
 
 module _ (c : tie.At-match-keys1 Inv-loop μ-loop) where
   is-fences : markOf (line (c .before)) ≡ markFN
-  is-fences = marks (c .before) (c .match .keys1)
+  is-fences = marks (c .before) (λ e. omega arith) (c .match .keys1)
 
   behind-fences : BehindMark (text (c .before)) (at (c .before))
   behind-fences = behind (c .before) (rw is-fences)
@@ -105,7 +106,7 @@ loop-again c =
 
 module _ (c : tie.At-match-keys2 Inv-loop μ-loop) where
   is-arc : markOf (line (c .before)) ≡ markAR
-  is-arc = marks (c .before) (c .match .keys2)
+  is-arc = marks (c .before) (λ e. omega arith) (c .match .keys2)
 
   behind-arc : BehindMark (text (c .before)) (at (c .before))
   behind-arc = behind (c .before) (rw is-arc)
@@ -139,8 +140,8 @@ loop-again-2 : tie.Need-loop-again-2 Inv-loop μ-loop
 loop-again-2 c =
     let read : tie.At-match-keys2 Inv-loop μ-loop = search in
     let filled : tie.After-fill-arc Inv-loop μ-loop = search in
-    let (end, (tails, (heads, (lengths, speeds)))) = filled .fill-arc .ensures in
-    arc-next _ _ (turn (read .before) .loop .inv) (behind-arc read) (is-arc read) _ (ap (λ end. end + 1) end) _ _ _ _ tails heads lengths speeds
+    let (end, (tails, (heads, (lengths, (holds, speeds))))) = filled .fill-arc .ensures in
+    arc-next _ _ (turn (read .before) .loop .inv) (behind-arc read) (is-arc read) _ (ap (λ end. end + 1) end) _ _ _ _ _ tails heads lengths holds speeds
 
 -- ---- Another line
 
@@ -155,7 +156,8 @@ loop-again-3 c =
     let read = c .before .before in
     let ((_, no-fences), no-arc) = c .before .match .rest in
     let is = read .mark-at .ensures in
-    other-next _ _ (turn read .loop .inv) (λ e. no-fences (is ∙ e)) (λ e. no-arc (is ∙ e)) _ (ap (λ end. end + 1) (c .line-end .ensures))
+    other-next _ _ (turn read .loop .inv) (λ e. no-fences (is ∙ mark-two (line read) e (λ e. omega arith)))
+    (λ e. no-arc (is ∙ mark-two (line read) e (λ e. omega arith))) _ (ap (λ end. end + 1) (c .line-end .ensures))
 
 returns : tie.Need-returns Inv-loop μ-loop
 returns c = let start : tie.Start Inv-loop μ-loop = search in filled-whole _ _ (c .before .loop .inv) (c .loop-test .left) (start .pre)
@@ -188,5 +190,6 @@ fill-spec =
     (λ c. c .before .loop .inv .tails-filled .same-length)
     (λ c. c .before .loop .inv .heads-filled .same-length)
     (λ c. c .before .loop .inv .lengths-filled .same-length)
+    (λ c. c .before .loop .inv .holds-filled .same-length)
     (λ c. c .before .loop .inv .speeds-filled .same-length)
     returns)

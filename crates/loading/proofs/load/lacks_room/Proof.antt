@@ -21,6 +21,8 @@ lacks-room-spec =
     (λ c κs. search needs)
     (λ c κs. search needs)
     (λ c κs. search needs)
+    (λ c κs. search needs)
+    (λ c κs. search needs)
     mul-exceeds
     (λ c κs. search needs)
     (λ c κs. search needs)

@@ -14,7 +14,7 @@ use Rattle.loading.proofs.load.load.Statement.{statement}
 use Rattle.loading.proofs.load.load.Tie as tie
 
 abbrev lent : tie.Start → Tables
-lent s = tables (now (s .args .fences)) (now (s .args .tails)) (now (s .args .heads)) (now (s .args .lengths)) (now (s .args .speeds))
+lent s = tables (now (s .args .fences)) (now (s .args .tails)) (now (s .args .heads)) (now (s .args .lengths)) (now (s .args .holds)) (now (s .args .speeds))
 
 -- ---- Where the scan finds no fault
 
@@ -54,11 +54,14 @@ returns-2 c =
     let called : tie.After-scan = search in
     load-refused _ (lent start) (ap readingOf (sym (c .before .refusal .given .1)) ∙ called .scan .ensures)
 
+abbrev enough-before : tie.After-fill → tie.Else1
+enough-before c = search
+
 returns-3 : tie.Need-returns-3
 returns-3 c =
-    let told : tie.After-known-told2 = search in
-    let enough : tie.Else1 = search in
     let filled : tie.After-fill = search in
+    let enough = enough-before filled in
+    let told = enough .before .before in
     let (answer, tables) = load-filled _ (lent (begun told)) (read told) (long enough) in
     (answer, filled .fill .ensures ∙ tables)
 
@@ -74,6 +77,7 @@ load-spec =
     (λ c. search needs)
     fill-requires
     returns-2
+    (λ c. search needs)
     (λ c. search needs)
     (λ c. search needs)
     (λ c. search needs)

@@ -5,6 +5,7 @@ use mathlib.Core.Path.{_≡_, sym, _∙_}
 use native.Mathlib.Omega.{arith}
 use denote.Ref.{now}
 use Rattle.townfile.specs.Lines.{markJN, markOf}
+use Rattle.townfile.proofs.Marks.{two-mark, mark-two}
 use Rattle.fields.specs.Fields.{lineFrom, fieldAt}
 use Rattle.fields.specs.declared.field.Field.the-variants.{Number}
 use Rattle.fields.proofs.LineFrom.{line-inside}
@@ -13,7 +14,7 @@ use Rattle.naming.proofs.name.name_start.Statement.{statement}
 use Rattle.naming.proofs.name.name_start.Tie as tie
 
 returns : tie.Need-returns
-returns c = other-mark _ _ _ (λ is. c .if1 .taken (c .before .mark-at .ensures ∙ is))
+returns c = other-mark _ _ _ (λ is. c .if1 .taken (c .before .mark-at .ensures ∙ mark-two _ is (λ e. omega arith)))
 
 -- ---- A line with the mark
 
@@ -21,7 +22,7 @@ abbrev begun : tie.Else1 → tie.Start
 begun c = search
 
 marked : (c : tie.Else1) → markOf (lineFrom (now (begun c .args .text)) (begun c .args .at)) ≡ markJN
-marked c = sym (c .before .mark-at .ensures) ∙ c .if1 .left
+marked c = two-mark _ (sym (c .before .mark-at .ensures) ∙ c .if1 .left) (λ e. omega arith)
 
 add-read-field : tie.Need-add-read-field
 add-read-field c =

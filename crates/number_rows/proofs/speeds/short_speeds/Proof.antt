@@ -5,7 +5,7 @@ use Prim.Native.Nat.{_+_, _-_, _*_, _≤_}
 use native.Mathlib.Omega.{arith}
 use Rattle.number_rows.specs.code.ShortSpeeds.{ShortField}
 use Rattle.number_rows.proofs.ShortSpeeds.{reached-at, RowLeft, row-goes-on, row-ends}
-use Rattle.number_rows.proofs.NumberLoops.{all-left}
+use Rattle.number_rows.proofs.NumberLoops.{row-starts}
 use Rattle.number_rows.proofs.speeds.short_speeds.Statement.{statement}
 use Rattle.number_rows.proofs.speeds.short_speeds.Tie as tie
 
@@ -16,7 +16,9 @@ abbrev μ-loop : tie.MeasureT-loop
 μ-loop text at count i₀ k₀ i k = count - k
 
 loop-holds : tie.Need-loop-holds Inv-loop μ-loop
-loop-holds c = ((λ e. all-left _ _ _ _), omega arith, omega arith)
+loop-holds c =
+    let begun : tie.Start Inv-loop μ-loop = search in
+    ((λ numbers fits e. row-starts _ _ (begun .args .count) numbers), omega arith, omega arith)
 
 short-speed-requires : tie.Need-short-speed-requires Inv-loop μ-loop
 short-speed-requires c κs = omega arith
@@ -28,13 +30,8 @@ loop-again c =
     let field = reached-at (ShortField _ _) (c .before .next .given .1) (read .short-speed .ensures) in
     (row-goes-on _ _ _ _ _ (turn .before .loop .inv .0) (omega arith) (turn .loop-test .taken) field, omega arith, omega (arith, field .digits .near))
 
-shared-slice-read-if3 : tie.Need-shared-slice-read-if3 Inv-loop μ-loop
-shared-slice-read-if3 c = omega arith
-
-returns-5 : tie.Need-returns-5 Inv-loop μ-loop
-returns-5 c =
-    let last = c .before .before in
-    row-ends _ _ _ _ _ (last .before .loop .inv .0) (omega arith) (last .loop-test .left) (c .if3 .left)
+returns-4 : tie.Need-returns-4 Inv-loop μ-loop
+returns-4 c = row-ends _ _ _ _ _ (c .before .loop .inv .0) (omega arith) (omega (arith, c .loop-test .left))
 
 pub short-speeds-spec : {M : Type 1} → statement M
 short-speeds-spec =
@@ -54,6 +51,4 @@ short-speeds-spec =
     (λ c. search needs)
     (λ c. search needs)
     loop-again
-    shared-slice-read-if3
-    (λ c. search needs)
-    returns-5)
+    returns-4)

@@ -2,7 +2,7 @@
 use borrow.Author.Needs.{needs}
 use mathlib.Core.Path.{_≡_, sym, _∙_}
 use denote.Ref.{now}
-use Rattle.townfile.specs.Lines.{markOf}
+use Rattle.townfile.specs.Lines.{firstTwo}
 use Rattle.fields.specs.Fields.{lineFrom}
 use Rattle.question_line.specs.Line.{firstLine}
 use Rattle.question_line.specs.code.Counting.{countedFrom}
@@ -23,7 +23,7 @@ returns-2 c = refused _ _ (other-mark _ _ (λ e. c .if2 .taken (c .before .mark-
 abbrev begun : tie.Else2 → tie.Start
 begun c = search
 
-is : (c : tie.Else2) → markOf (firstLine (now (begun c .args .text))) ≡ begun c .args .mark
+is : (c : tie.Else2) → firstTwo (firstLine (now (begun c .args .text))) ≡ begun c .args .mark
 unfolding lineFrom
 is c = sym (c .before .mark-at .ensures) ∙ c .if2 .left
 

@@ -37,14 +37,14 @@ returns-2 : tie.Need-returns-2
 returns-2 c =
     let in-turn : tie.Else1 = search in
     let called : tie.After-read-field = search in
-    town-no-first _ _ _ (in-turn .if1 .left) (sym (called .read-field .ensures) ∙ c .enum-told .given .1)
+    town-no-first _ _ _ _ (in-turn .if1 .left) (sym (called .read-field .ensures) ∙ c .enum-told .given .1)
 
 returns-3 : tie.Need-returns-3
 returns-3 c =
     let in-turn : tie.Else1 = search in
     let junctions : tie.After-junctions = search in
     let called : tie.After-read-field2 = search in
-    town-no-second _ _ _ (in-turn .if1 .left) (junctions-read junctions) (sym (called .read-field2 .ensures) ∙ c .enum-told2 .given .1)
+    town-no-second _ _ _ _ (in-turn .if1 .left) (junctions-read junctions) (sym (called .read-field2 .ensures) ∙ c .enum-told2 .given .1)
 
 returns-4 : tie.Need-returns-4
 returns-4 c =
@@ -53,7 +53,7 @@ returns-4 c =
     let tested : tie.After-town-keeps = search in
     let ended : tie.After-numbers-end = search in
     let next : tie.After-after-town = search in
-    let read = town-numbers _ _ _ (in-turn .if1 .left) (junctions-read (first intervals)) (intervals-read intervals) in
+    let read = town-numbers _ _ _ _ (in-turn .if1 .left) (junctions-read (first intervals)) (intervals-read intervals) in
     c .of-numbers .ensures ∙ ap (ofNumbers (ended .numbers-end .result)) (next .after-town .ensures) ∙ read (tested .town-keeps .ensures) (ended .numbers-end .ensures)
 
 pub town-line-spec : {M : Type 1} → statement M

@@ -17,7 +17,7 @@ bytes : (c : tie.After-load) → Bytes (now (begun c .args .text))
 bytes c i h = let text : tie.After-shared-slice-known = search in text .shared-slice-known .given i .fits
 
 abbrev held : tie.After-load → Tables
-held c = let last = c .load .last .1 in tables (last .0) (last .1 .0) (last .1 .1 .0) (last .1 .1 .1 .0) (last .1 .1 .1 .1 .0)
+held c = let (_, (fences, (tails, (heads, (lengths, (holds, (speeds, _))))))) = c .load .last in tables fences tails heads lengths holds speeds
 
 returns : tie.Need-returns
 returns c =
@@ -43,7 +43,7 @@ loaded-sheet-requires : tie.Need-loaded-sheet-requires
 loaded-sheet-requires c κs =
     let counted : tie.After-junctions = search in
     let town = loaded counted in
-    (town .few-arcs, (town .long, (town .checked, begun (called counted) .pre)))
+    (town .long, (town .checked, begun (called counted) .pre))
 
 returns-2 : tie.Need-returns-2
 returns-2 c = let counted : tie.After-junctions = search in rw (loaded counted .answers) (c .loaded-sheet .ensures)
@@ -57,9 +57,11 @@ town-sheet-spec =
     (λ c. search needs)
     (λ c. search needs)
     (λ c. search needs)
+    (λ c. search needs)
     (λ c κs. search needs)
     (λ c. search needs)
     (λ c κs. search needs)
+    (λ c. search needs)
     (λ c. search needs)
     (λ c. search needs)
     (λ c. search needs)

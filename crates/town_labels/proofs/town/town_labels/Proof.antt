@@ -25,7 +25,7 @@ bytes : (c : tie.After-load) → Bytes (now (begun c .args .text))
 bytes c i h = let text : tie.After-shared-slice-known = search in text .shared-slice-known .given i .fits
 
 abbrev held : tie.After-load → Tables
-held c = let last = c .load .last .1 in tables (last .0) (last .1 .0) (last .1 .1 .0) (last .1 .1 .1 .0) (last .1 .1 .1 .1 .0)
+held c = let (_, (fences, (tails, (heads, (lengths, (holds, (speeds, _))))))) = c .load .last in tables fences tails heads lengths holds speeds
 
 returns : tie.Need-returns
 returns c =
@@ -49,7 +49,7 @@ loaded c =
     town-loaded _ _ (bytes (called c)) (ap readingOf (sym (c .junctions .given .1)) ∙ load .ensures .0) (load .ensures .1)
 
 labels-in-tables-requires : tie.Need-labels-in-tables-requires
-labels-in-tables-requires c κs = let counted : tie.After-junctions = search in (loaded counted .few-arcs, loaded counted .long)
+labels-in-tables-requires c κs = let counted : tie.After-junctions = search in loaded counted .long
 
 -- ---- Where Labels was called
 
@@ -95,7 +95,9 @@ town-labels-spec =
     (λ c. search needs)
     (λ c. search needs)
     (λ c. search needs)
+    (λ c. search needs)
     (λ c κs. search needs)
+    (λ c. search needs)
     (λ c. search needs)
     (λ c. search needs)
     (λ c. search needs)

@@ -22,7 +22,7 @@ struct NumberTaken {
 }
 
 // The number of the field at a place. The scan has shown that it has the form and that its line ends in a line feed, so nothing is
-// tested again: the first byte that is no digit ends it.
+// tested again: the first byte that is no digit ends it. A speed has mostly two digits, so only those behind the second make a loop.
 fn take_number(text: &[u8], at: usize) -> NumberTaken
     requires { ⌜ fieldKeeps (now text) at ≡ true ⌝ }
     requires { ⌜ EndsInside (now text) at ⌝ }
@@ -30,7 +30,17 @@ fn take_number(text: &[u8], at: usize) -> NumberTaken
 {
     let first = text[at + 1];
     let mut value = (first - b'0') as u32;
-    let mut i = at + 2;
+    let next = at + 2;
+    let second = text[next];
+    match second {
+        b'0'..=b'9' => {
+            value = value * 10 + ((second - b'0') as u32);
+        }
+        _ => {
+            return NumberTaken { value, next };
+        }
+    }
+    let mut i = next + 1;
     loop {
         let byte = text[i];
         match byte {

@@ -91,7 +91,7 @@ fn short_speeds(text: &[u8], at: usize, count: u32) -> ShortRead
     if text.len() <= at {
         return ShortRead::Unsure;
     }
-    if text.len() - at <= SHORT_FIELD * (count as usize) {
+    if text.len() <= at + SHORT_FIELD * (count as usize) {
         return ShortRead::Unsure;
     }
     let mut i = at;
@@ -148,11 +148,13 @@ pub fn row_read(text: &[u8], at: usize, count: u32, held: bool) -> Numbers
     let ShortRead::To(end) = short_speeds(text, at, count) else {
         return long_row(text, at, count, held);
     };
-    // Only where a word ends here were all digits of the last speed read.
-    if text[end] != LINE_FEED {
-        if text[end] != SPACE {
-            return long_row(text, at, count, held);
+    // Only where a word ends here were all digits of the last speed read. It ends at a space before a hold, else at the line's end.
+    if held {
+        if text[end] == SPACE {
+            return row_end(text, end, held, true);
         }
+    } else if text[end] == LINE_FEED {
+        return row_end(text, end, held, true);
     }
-    row_end(text, end, held, true)
+    long_row(text, at, count, held)
 }

@@ -1,10 +1,7 @@
 -- `speeds::row_read`: where a word ends behind the speeds of the short reading, what is left of the row is its end.
 use borrow.Author.Needs.{needs}
-use mathlib.Core.Path.{_≡_, _∙_}
-use mathlib.Core.List.{[]}
-use mathlib.Core.Logic.{⊎-elim}
+use mathlib.Core.Path.{_∙_}
 use denote.Ref.{now}
-use Rattle.fields.specs.Fields.{wordFrom}
 use Rattle.fields.proofs.LineFrom.{line-feed-ends, word-ends, space-ends}
 use Rattle.number_rows.specs.code.ShortSpeeds.{ShortRow}
 use Rattle.number_rows.proofs.ShortSpeeds.{reached-at, row-behind}
@@ -17,19 +14,23 @@ begun c = search
 front : (c : tie.After-end) → ShortRow (now (begun c .args .text)) (begun c .args .at) (begun c .args .count) (c .end .given .0 .0)
 front c = let read : tie.After-short-speeds = search in reached-at (ShortRow _ _ _) (c .end .given .1) (read .short-speeds .ensures)
 
-shared-slice-read-if1 : tie.Need-shared-slice-read-if1
-shared-slice-read-if1 c = let read : tie.After-end = search in front read .inside
-
 shared-slice-read-if2 : tie.Need-shared-slice-read-if2
 shared-slice-read-if2 c = let read : tie.After-end = search in front read .inside
 
+shared-slice-read-if3 : tie.Need-shared-slice-read-if3
+shared-slice-read-if3 c = let read : tie.After-end = search in front read .inside
+
+-- a space follows the speeds
+returns-2 : tie.Need-returns-2
+returns-2 c =
+    let read : tie.After-end = search in
+    c .row-end .ensures ∙ row-behind _ (front read) (space-ends _ _ (front read .inside) (c .before .if2 .taken))
+
+-- the line ends behind them
 returns-3 : tie.Need-returns-3
 returns-3 c =
     let read : tie.After-end = search in
-    let inside = front read .inside in
-    let ends : wordFrom (now (begun read .args .text)) (read .end .given .0 .0) ≡ [] =
-    ⊎-elim (λ w. space-ends _ _ inside (w .2 .left)) (λ w. word-ends _ _ (line-feed-ends _ _ inside (w .left))) (c .before .if1 .came) in
-    c .row-end .ensures ∙ row-behind _ (front read) ends
+    c .row-end2 .ensures ∙ row-behind _ (front read) (word-ends _ _ (line-feed-ends _ _ (front read .inside) (c .before .if3 .taken)))
 
 pub row-read-spec : {M : Type 1} → statement M
 row-read-spec =
@@ -40,9 +41,11 @@ row-read-spec =
     (λ c. search needs)
     (λ c κs. search needs)
     (λ c. search needs)
-    shared-slice-read-if1
     shared-slice-read-if2
     (λ c κs. search needs)
-    (λ c. search needs)
+    returns-2
+    shared-slice-read-if3
     (λ c κs. search needs)
-    returns-3)
+    returns-3
+    (λ c κs. search needs)
+    (λ c. search needs))

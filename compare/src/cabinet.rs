@@ -4,9 +4,11 @@
 //! as its pointer and its length; the library keeps neither after the call.
 
 use crate::reference::limits::REFUSED;
-use crate::reference::{Arrival, Counts, LoadRefusal, Network, Refusal};
+use crate::reference::{Arrival, Closure, Counts, LoadRefusal, Network, Refusal};
 
 mod exports {
+    use crate::reference::Closure;
+
     unsafe extern "C" {
         pub fn exports_network_check(
             junctions: u32,
@@ -49,6 +51,8 @@ mod exports {
             hold_count: usize,
             speeds: *const u8,
             speed_count: usize,
+            closures: *const Closure,
+            closure_count: usize,
             source: u32,
             departure: u32,
             labels: *mut u32,
@@ -71,6 +75,8 @@ mod exports {
             hold_count: usize,
             speeds: *const u8,
             speed_count: usize,
+            closures: *const Closure,
+            closure_count: usize,
             source: u32,
             departure: u32,
             destination: u32,
@@ -92,6 +98,8 @@ mod exports {
             hold_count: usize,
             speeds: *const u8,
             speed_count: usize,
+            closures: *const Closure,
+            closure_count: usize,
             source: u32,
             departures: *const u32,
             departure_count: usize,
@@ -205,6 +213,7 @@ pub fn arc_arrival(
 
 pub fn labels(
     network: &Network,
+    closures: &[Closure],
     source: u32,
     departure: u32,
     labels: &mut [u32],
@@ -216,6 +225,8 @@ pub fn labels(
         on_network!(
             exports_labels,
             network,
+            closures.as_ptr(),
+            closures.len(),
             source,
             departure,
             labels.as_mut_ptr(),
@@ -229,6 +240,7 @@ pub fn labels(
 
 pub fn route(
     network: &Network,
+    closures: &[Closure],
     source: u32,
     departure: u32,
     destination: u32,
@@ -240,6 +252,8 @@ pub fn route(
         on_network!(
             exports_route,
             network,
+            closures.as_ptr(),
+            closures.len(),
             source,
             departure,
             destination,
@@ -252,6 +266,7 @@ pub fn route(
 
 pub fn sheet(
     network: &Network,
+    closures: &[Closure],
     source: u32,
     departures: &[u32],
     labels: &mut [u32],
@@ -263,6 +278,8 @@ pub fn sheet(
         on_network!(
             exports_sheet,
             network,
+            closures.as_ptr(),
+            closures.len(),
             source,
             departures.as_ptr(),
             departures.len(),
@@ -388,7 +405,18 @@ fn halves(answer: u64) -> (u32, u32) {
 
 #[cfg(test)]
 mod tests {
+    use std::mem::offset_of;
+
     use super::*;
+
+    #[test]
+    fn lends_records_of_three_numbers() {
+        assert_eq!(size_of::<Closure>(), 12);
+        assert_eq!(align_of::<Closure>(), 4);
+        assert_eq!(offset_of!(Closure, arc), 0);
+        assert_eq!(offset_of!(Closure, first), 4);
+        assert_eq!(offset_of!(Closure, end), 8);
+    }
 
     #[test]
     fn reads_arc_arrivals_answers() {

@@ -27,7 +27,7 @@ pub struct Check {
     pub refuses: &'static [RangeInclusive<u32>],
 }
 
-pub const CHECKS: [&Check; 35] = [
+pub const CHECKS: [&Check; 41] = [
     &cases::NETWORK_CHECK,
     &cases::ARC_ARRIVAL,
     &cases::LABELS,
@@ -58,6 +58,12 @@ pub const CHECKS: [&Check; 35] = [
     &properties::ARC_HELD,
     &properties::HOLDS_AS_ARCS,
     &properties::HOLD_TABLE,
+    &properties::CLOSURES_AS_INTERVALS,
+    &properties::MORE_CLOSED,
+    &properties::SAME_TICKS_CLOSED,
+    &properties::CLOSED_AT_START,
+    &properties::CLOSED_THROUGHOUT,
+    &properties::CLOSURE_LIST,
     &properties::CONVERTED_AS_WRITTEN,
     &properties::THERE_AND_BACK,
     &properties::CONVERTED_TOWN,
@@ -69,8 +75,8 @@ pub const CHECKS: [&Check; 35] = [
 #[derive(Clone, Copy, Debug, PartialEq, Eq, PartialOrd, Ord)]
 pub enum Outcome {
     Answered,
-    /// The arc cannot be driven, there is no name, or midnight or the holds make no
-    /// difference.
+    /// The arc cannot be driven, there is no name, or midnight, the holds or the closures
+    /// make no difference.
     Nothing,
     Refused(Refusal),
 }

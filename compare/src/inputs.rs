@@ -1,5 +1,6 @@
-//! Networks and town files to ask about, the same on every machine.
+//! Networks, closures and town files to ask about, the same on every machine.
 
+pub mod closures;
 pub mod damage;
 pub mod examples;
 pub mod grids;

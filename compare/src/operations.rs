@@ -1,6 +1,6 @@
 //! One implementation of the operations as a table of functions.
 
-use crate::reference::{Arrival, Counts, Form, LoadRefusal, Network, Refusal};
+use crate::reference::{Arrival, Closure, Counts, Form, LoadRefusal, Network, Refusal};
 use crate::{cabinet, reference};
 
 /// Takes a text and a lent output, and returns the result's length.
@@ -10,9 +10,9 @@ pub type Converter = fn(&[u8], &mut [u8]) -> Result<usize, LoadRefusal>;
 pub struct Operations {
     pub network_check: fn(&Network) -> Result<(), Refusal>,
     pub arc_arrival: fn(u32, u32, u32, u32, &[u32], &[u8]) -> Result<Option<Arrival>, Refusal>,
-    pub labels: fn(&Network, u32, u32, &mut [u32], &mut [u16]) -> Result<(), Refusal>,
-    pub route: fn(&Network, u32, u32, u32, &mut [u16]) -> Result<u32, Refusal>,
-    pub sheet: fn(&Network, u32, &[u32], &mut [u32], &mut [u32]) -> Result<(), Refusal>,
+    pub labels: fn(&Network, &[Closure], u32, u32, &mut [u32], &mut [u16]) -> Result<(), Refusal>,
+    pub route: fn(&Network, &[Closure], u32, u32, u32, &mut [u16]) -> Result<u32, Refusal>,
+    pub sheet: fn(&Network, &[Closure], u32, &[u32], &mut [u32], &mut [u32]) -> Result<(), Refusal>,
     pub load: fn(
         text: &[u8],
         fences: &mut [u32],

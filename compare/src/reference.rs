@@ -5,6 +5,7 @@
 //! changes nothing that was lent to it when it refuses.
 
 mod arc;
+mod closures;
 mod convert;
 mod host;
 mod labels;
@@ -17,6 +18,7 @@ mod route;
 mod sheet;
 
 pub use arc::{Arrival, arc_arrival};
+pub use closures::Closure;
 pub use convert::{to_new, to_old};
 pub use host::host_question;
 pub use labels::labels;

@@ -1,6 +1,8 @@
-//! The programs' size limit, midnight and the last tick, an arc's intervals, holds, a
-//! sheet's list and buffers, and towns of fixed size.
+//! The programs' size limit, midnight and the last tick, an arc's intervals, holds,
+//! closures, a sheet's list and buffers, and towns of fixed size.
 
+#[path = "boundaries/closures.rs"]
+mod closures;
 #[path = "boundaries/holds.rs"]
 mod holds;
 #[path = "boundaries/intervals.rs"]
@@ -15,7 +17,7 @@ use compare::inputs::networks::LoneArc;
 use compare::inputs::texts::{FORMS, pad, question_line, town_text};
 use compare::inputs::towns::{DEPARTURE, EVENING, SOURCE, Town, departures};
 use compare::reference::limits::{DAY, MAX_TEXT, NO_ARC, REFUSED, UNREACHED};
-use compare::reference::{Form, Refusal};
+use compare::reference::{Closure, Form, Refusal};
 
 #[test]
 fn program_input() {
@@ -100,7 +102,14 @@ fn last_tick() {
         let network = network(length);
         let mut labels = [0; 4];
         let mut predecessors = [0; 4];
-        let reply = cabinet::labels(&network.lent(), 0, 863_999, &mut labels, &mut predecessors);
+        let reply = cabinet::labels(
+            &network.lent(),
+            &[],
+            0,
+            863_999,
+            &mut labels,
+            &mut predecessors,
+        );
         assert_eq!(reply, Ok(()));
         assert_eq!(labels, expected);
 
@@ -110,7 +119,7 @@ fn last_tick() {
             let answer = cabinet::host_question(&text, 0, 863_999, 2);
             assert_eq!(answer, expected[2].min(unreached));
         }
-        let route = cabinet::route(&network.lent(), 0, 863_999, 2, &mut [0; 2]);
+        let route = cabinet::route(&network.lent(), &[], 0, 863_999, 2, &mut [0; 2]);
         assert_eq!(route.is_ok(), expected[2] != UNREACHED);
     }
 }
@@ -235,7 +244,7 @@ fn walk_across_midnight() {
     let after = (864_000..).step_by(2);
     let expected: Vec<u32> = before.chain(after).take(200).collect();
     assert_eq!(labels(&network, 863_900).0[..], expected);
-    assert_answered([answers::route(&network, (0, 863_900), 199, 199)]);
+    assert_answered([answers::route(&network, &[], (0, 863_900), 199, 199)]);
 }
 
 #[test]
@@ -269,7 +278,7 @@ fn sheet_number(
     departures: &[u32],
     buffers: (usize, usize),
 ) -> u32 {
-    number(answers::sheet(network, source, departures, buffers))
+    number(answers::sheet(network, &[], source, departures, buffers))
 }
 
 /// A town of ten junctions.
@@ -357,7 +366,14 @@ fn longest_journeys() {
         let departures = [vec![0; 96 - late], vec![1; late]].concat();
         let mut labels = vec![7; 96 * 200];
         let mut figures = vec![7; 4 * 200];
-        let reply = cabinet::sheet(&network.lent(), 0, &departures, &mut labels, &mut figures);
+        let reply = cabinet::sheet(
+            &network.lent(),
+            &[],
+            0,
+            &departures,
+            &mut labels,
+            &mut figures,
+        );
         assert_eq!(reply, Ok(()));
         let reached = 96 - late as u32;
         let longest = 1_728_000 * reached.min(1);
@@ -367,6 +383,7 @@ fn longest_journeys() {
         }
         assert_answered([answers::sheet(
             &network,
+            &[],
             0,
             &departures,
             (96 * 200, 4 * 200),
@@ -400,12 +417,12 @@ fn assert_network_answered(town: &Town) {
     assert_answered([answers::network_check(network)]);
     for start in [(SOURCE, DEPARTURE), (SOURCE, EVENING)] {
         assert_answered([
-            answers::labels(network, start, (junctions, junctions)),
-            answers::route(network, start, town.destination(), junctions),
+            answers::labels(network, &[], start, (junctions, junctions)),
+            answers::route(network, &[], start, town.destination(), junctions),
         ]);
     }
     let buffers = (96 * junctions, 4 * junctions);
-    assert_answered([answers::sheet(network, SOURCE, &departures(), buffers)]);
+    assert_answered([answers::sheet(network, &[], SOURCE, &departures(), buffers)]);
 }
 
 fn assert_text_answered(town: &Town, form: Form) {
@@ -432,7 +449,14 @@ fn evenings_in_towns_of_fixed_size() {
         let network = town.network.lent();
         let mut labels = vec![0; network.junctions as usize];
         let mut predecessors = vec![0; network.junctions as usize];
-        let reply = cabinet::labels(&network, SOURCE, EVENING, &mut labels, &mut predecessors);
+        let reply = cabinet::labels(
+            &network,
+            &[],
+            SOURCE,
+            EVENING,
+            &mut labels,
+            &mut predecessors,
+        );
         assert_eq!(reply, Ok(()));
         let after_midnight = labels
             .iter()
@@ -444,9 +468,19 @@ fn evenings_in_towns_of_fixed_size() {
 
 /// Labels and predecessors from junction 0, on which both agree.
 fn labels(network: &OwnedNetwork, departure: u32) -> (Vec<u32>, Vec<u16>) {
+    closed_labels(network, &[], departure)
+}
+
+/// The same with closures.
+fn closed_labels(
+    network: &OwnedNetwork,
+    closures: &[Closure],
+    departure: u32,
+) -> (Vec<u32>, Vec<u16>) {
     let junctions = network.junctions as usize;
     assert_answered([answers::labels(
         network,
+        closures,
         (0, departure),
         (junctions, junctions),
     )]);
@@ -454,6 +488,7 @@ fn labels(network: &OwnedNetwork, departure: u32) -> (Vec<u32>, Vec<u16>) {
     let mut predecessors = vec![7; junctions];
     let reply = cabinet::labels(
         &network.lent(),
+        closures,
         0,
         departure,
         &mut labels,

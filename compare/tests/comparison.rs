@@ -165,6 +165,36 @@ fn hold_table() {
 }
 
 #[test]
+fn closures_as_intervals() {
+    run(&properties::CLOSURES_AS_INTERVALS);
+}
+
+#[test]
+fn more_closed() {
+    run(&properties::MORE_CLOSED);
+}
+
+#[test]
+fn same_ticks_closed() {
+    run(&properties::SAME_TICKS_CLOSED);
+}
+
+#[test]
+fn closed_at_start() {
+    run(&properties::CLOSED_AT_START);
+}
+
+#[test]
+fn closed_throughout() {
+    run(&properties::CLOSED_THROUGHOUT);
+}
+
+#[test]
+fn closure_list() {
+    run(&properties::CLOSURE_LIST);
+}
+
+#[test]
 fn converted_as_written() {
     run(&properties::CONVERTED_AS_WRITTEN);
 }

@@ -1,12 +1,12 @@
 //! The reckonings that document 01 keeps, alone and on a sheet, and more of them around
-//! midnight and with holds, put to the library and the reference. An arc's have their
-//! intervals.
+//! midnight, with holds and with closures, put to the library and the reference. An arc's
+//! have their intervals.
 
 use compare::comparison::program::{ARRIVALS, Run, SHEET, TO_NEW, TO_OLD};
 use compare::inputs::examples::{HELD_TOWN, HELD_TOWN_TEXT, TABLE_1, TOWN, TOWN_TEXT};
 use compare::operations::{CABINET, Converter, Operations, REFERENCE};
 use compare::reference::limits::{NO_ARC, REFUSED};
-use compare::reference::{Arrival, Counts, LoadRefusal, Network, Refusal};
+use compare::reference::{Arrival, Closure, Counts, LoadRefusal, Network, Refusal};
 
 const BOTH: [Operations; 2] = [CABINET, REFERENCE];
 
@@ -33,9 +33,20 @@ fn labels(
     network: &Network,
     departure: u32,
 ) -> Result<(Vec<u32>, Vec<u16>), Refusal> {
+    closed_labels(operations, network, &[], departure)
+}
+
+/// The same with closures.
+fn closed_labels(
+    operations: &Operations,
+    network: &Network,
+    closures: &[Closure],
+    departure: u32,
+) -> Result<(Vec<u32>, Vec<u16>), Refusal> {
     let mut labels = vec![7; network.junctions as usize];
     let mut predecessors = vec![7; network.junctions as usize];
-    (operations.labels)(network, 0, departure, &mut labels, &mut predecessors)?;
+    let buffers = (&mut labels[..], &mut predecessors[..]);
+    (operations.labels)(network, closures, 0, departure, buffers.0, buffers.1)?;
     Ok((labels, predecessors))
 }
 
@@ -236,7 +247,7 @@ fn labels_across_midnight() {
             let expected = (ticks.to_vec(), vec![NO_ARC, 0, 1]);
             assert_eq!(labels(&operations, &network, departure), Ok(expected));
             let mut arcs = [7; 3];
-            let count = (operations.route)(&network, 0, departure, 2, &mut arcs);
+            let count = (operations.route)(&network, &[], 0, departure, 2, &mut arcs);
             assert_eq!((count, arcs), (Ok(2), [0, 1, 7]));
         }
     }
@@ -260,7 +271,7 @@ fn the_town_at_midnight() {
         let departures = [863_950, 40, 863_940, 863_999];
         let mut rows = [7; 12];
         let mut figures = [7; 12];
-        let reply = (operations.sheet)(&NIGHT_TOWN, 0, &departures, &mut rows, &mut figures);
+        let reply = (operations.sheet)(&NIGHT_TOWN, &[], 0, &departures, &mut rows, &mut figures);
         assert_eq!(reply, Ok(()));
         assert_eq!(rows[..3], [863_950, 864_000, 864_040]);
         assert_eq!(rows[3..6], [40, 140, 190]);
@@ -330,6 +341,49 @@ fn the_town_with_holds() {
 }
 
 #[test]
+fn the_town_with_closures() {
+    let closure = |arc, first, end| Closure { arc, first, end };
+    // Up to the fence at 100 arc 1 loses 40 spans with each tick, and covers them at 20.
+    // Arc 2 is at junction 2 at 110, if neither it nor arc 0 is closed.
+    for (closures, expected) in [
+        (&[][..], ([10, 60, 100], 1)),
+        (&[closure(1, 15, 20)], ([10, 60, 110], 1)),
+        (&[closure(1, 15, 21)], ([10, 60, 110], 2)),
+        (&[closure(1, 0, 1_728_000)], ([10, 60, 110], 2)),
+        (
+            &[closure(1, 0, 1_728_000), closure(0, 50, 60)],
+            ([10, 70, 120], 2),
+        ),
+        (
+            &[closure(1, 0, 1_728_000), closure(2, 60, 70)],
+            ([10, 60, 120], 2),
+        ),
+        // Closed at the label of 100 itself, and the same on another day.
+        (&[closure(1, 100, 1_728_000)], ([10, 60, 100], 1)),
+        (&[closure(1, 864_010, 864_100)], ([10, 60, 100], 1)),
+        // 40 spans are left at 100, and take the ticks 200 and 201 at 20.
+        (
+            &[closure(0, 40, 60), closure(1, 10, 11), closure(1, 100, 200)],
+            ([10, 80, 130], 2),
+        ),
+        (
+            &[closure(2, 0, 300), closure(1, 10, 11), closure(1, 100, 200)],
+            ([10, 60, 202], 1),
+        ),
+    ] {
+        for operations in BOTH {
+            let (ticks, arc) = expected;
+            let labels = closed_labels(&operations, &TOWN, closures, 10);
+            assert_eq!(labels, Ok((ticks.to_vec(), vec![NO_ARC, 0, arc])));
+            let route = if arc == 1 { [1, 7, 7] } else { [0, 2, 7] };
+            let mut arcs = [7; 3];
+            let count = (operations.route)(&TOWN, closures, 0, 10, 2, &mut arcs);
+            assert_eq!((count, arcs), (Ok(u32::from(arc)), route));
+        }
+    }
+}
+
+#[test]
 fn the_town_in_both_forms() {
     let new = TOWN_TEXT.replace("TN", "TW").replace(" 18\n", " 18 0\n");
     let new = new
@@ -371,7 +425,7 @@ fn the_sheet() {
         let mut labels = [7; 20];
         let mut figures = [7; 20];
         let departures = [27_000, 9_000, 24_000, 21_000];
-        let reply = (operations.sheet)(&TABLE_1, 0, &departures, &mut labels, &mut figures);
+        let reply = (operations.sheet)(&TABLE_1, &[], 0, &departures, &mut labels, &mut figures);
         assert_eq!(reply, Ok(()));
         assert_eq!(labels[5..10], [9_000, 18_000, 26_000, 27_000, 34_000]);
         assert_eq!(
@@ -435,7 +489,7 @@ fn document_004() {
         };
         let route = |departure| {
             let mut arcs = [7; 5];
-            let count = (operations.route)(&TABLE_1, 0, departure, 4, &mut arcs);
+            let count = (operations.route)(&TABLE_1, &[], 0, departure, 4, &mut arcs);
             arcs[..count.expect("accepted") as usize].to_vec()
         };
         assert_eq!(arrivals(9_000), [9_000, 18_000, 26_000, 27_000, 34_000]);

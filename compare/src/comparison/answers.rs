@@ -9,7 +9,7 @@ use crate::inputs::OwnedNetwork;
 use crate::inputs::networks::LoneArc;
 use crate::operations::{CABINET, Operations, REFERENCE};
 use crate::reference::limits::{FIGURES, REFUSED};
-use crate::reference::{Form, Refusal};
+use crate::reference::{Closure, Form, Refusal};
 
 /// What an operation replied and what the lent buffers then hold.
 #[derive(Debug, PartialEq)]
@@ -57,6 +57,10 @@ pub(super) fn shown(network: &OwnedNetwork) -> Vec<u8> {
     format!("{network:#?}\n").into_bytes()
 }
 
+pub(super) fn shown_closed(network: &OwnedNetwork, closures: &[Closure]) -> Vec<u8> {
+    format!("{network:#?}\n{closures:#?}\n").into_bytes()
+}
+
 pub(super) fn shown_arc(arc: &LoneArc) -> Vec<u8> {
     format!("{arc:?}\n").into_bytes()
 }
@@ -90,18 +94,20 @@ pub fn arc_arrival(arc: &LoneArc, departure: u32, interval: u32) -> Result<Outco
 
 pub fn labels(
     network: &OwnedNetwork,
+    closures: &[Closure],
     (source, departure): (u32, u32),
     (label_count, predecessor_count): (usize, usize),
 ) -> Result<Outcome, Difference> {
     let question = format!(
         "labels from {source} at {departure}, buffers of {label_count} and {predecessor_count}"
     );
-    let input = || shown(network);
+    let input = || shown_closed(network, closures);
     let reply = compare(&question, input, |operations| {
         let mut labels = Lent::new(label_count);
         let mut predecessors = Lent::new(predecessor_count);
         let reply = (operations.labels)(
             &network.lent(),
+            closures,
             source,
             departure,
             labels.part(),
@@ -119,17 +125,24 @@ pub fn labels(
 
 pub fn route(
     network: &OwnedNetwork,
+    closures: &[Closure],
     (source, departure): (u32, u32),
     destination: u32,
     list_length: usize,
 ) -> Result<Outcome, Difference> {
     let question =
         format!("route from {source} at {departure} to {destination}, list of {list_length}");
-    let input = || shown(network);
+    let input = || shown_closed(network, closures);
     let reply = compare(&question, input, |operations| {
         let mut arcs = Lent::new(list_length);
-        let reply =
-            (operations.route)(&network.lent(), source, departure, destination, arcs.part());
+        let reply = (operations.route)(
+            &network.lent(),
+            closures,
+            source,
+            departure,
+            destination,
+            arcs.part(),
+        );
         Answer {
             reply,
             kept: arcs.kept_after(reply.unwrap_or(0) as usize),
@@ -141,6 +154,7 @@ pub fn route(
 
 pub fn sheet(
     network: &OwnedNetwork,
+    closures: &[Closure],
     source: u32,
     departures: &[u32],
     (label_count, figure_count): (usize, usize),
@@ -148,12 +162,13 @@ pub fn sheet(
     let question = format!(
         "sheet from {source} at {departures:?}, buffers of {label_count} and {figure_count}"
     );
-    let input = || shown(network);
+    let input = || shown_closed(network, closures);
     let reply = compare(&question, input, |operations| {
         let mut labels = Lent::new(label_count);
         let mut figures = Lent::new(figure_count);
         let reply = (operations.sheet)(
             &network.lent(),
+            closures,
             source,
             departures,
             labels.part(),

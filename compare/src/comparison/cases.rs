@@ -3,7 +3,10 @@
 use super::answers::{self, TableLengths};
 use super::program::{self, Program};
 use super::{Check, Difference, Outcome};
-use crate::inputs::damage::{damage_fences, damage_network, damage_text, replace_one};
+use crate::inputs::closures::random_closures;
+use crate::inputs::damage::{
+    damage_closures, damage_fences, damage_network, damage_text, replace_one,
+};
 use crate::inputs::networks::{
     LoneArc, interval_at, random_arc, random_arc_departure, random_departure, random_departures,
     random_network,
@@ -14,7 +17,7 @@ use crate::reference::limits::{
     DAY, FIGURES, LAST_TICK, MAX_ARCS, MAX_DEPARTURES, MAX_INTERVALS, MAX_LENGTH, MAX_SPEED,
     MAX_TEXT,
 };
-use crate::reference::{self, Form};
+use crate::reference::{self, Closure, Form};
 
 pub const NETWORK_CHECK: Check = Check {
     name: "network check",
@@ -37,7 +40,7 @@ pub const LABELS: Check = Check {
     cases: 40_000,
     run: labels,
     finds_nothing: false,
-    refuses: &[1..=11, 32..=32],
+    refuses: &[1..=11, 32..=32, 36..=37],
 };
 
 pub const ROUTE: Check = Check {
@@ -45,7 +48,7 @@ pub const ROUTE: Check = Check {
     cases: 40_000,
     run: route,
     finds_nothing: false,
-    refuses: &[1..=10, 12..=14, 32..=32],
+    refuses: &[1..=10, 12..=14, 32..=32, 36..=37],
 };
 
 pub const SHEET: Check = Check {
@@ -53,7 +56,7 @@ pub const SHEET: Check = Check {
     cases: 20_000,
     run: sheet,
     finds_nothing: false,
-    refuses: &[1..=10, 30..=32],
+    refuses: &[1..=10, 30..=32, 36..=37],
 };
 
 pub const LOAD: Check = Check {
@@ -166,6 +169,7 @@ fn arc_arrival(random: &mut Random) -> Result<Outcome, Difference> {
 fn labels(random: &mut Random) -> Result<Outcome, Difference> {
     let mut network = random_network(random);
     let start = random_start(random, &network);
+    let closures = random_closure_list(random, &network, start);
     let junctions = network.junctions as usize;
     let mut buffers = (junctions, junctions);
     if random.one_in(8) {
@@ -174,26 +178,36 @@ fn labels(random: &mut Random) -> Result<Outcome, Difference> {
     if random.one_in(4) {
         damage_network(random, &mut network);
     }
-    answers::labels(&network, start, buffers)
+    answers::labels(&network, &closures, start, buffers)
 }
 
 fn route(random: &mut Random) -> Result<Outcome, Difference> {
     let mut network = random_network(random);
     let (source, departure) = random_start(random, &network);
     let destination = random_junction(random, &network);
+    let closures = random_closure_list(random, &network, (source, departure));
     if random.one_in(4) {
         damage_network(random, &mut network);
     }
     let mut arcs = [0; MAX_ARCS];
-    let route = reference::route(&network.lent(), source, departure, destination, &mut arcs);
+    let route = reference::route(
+        &network.lent(),
+        &closures,
+        source,
+        departure,
+        destination,
+        &mut arcs,
+    );
     let list = near(random, route.unwrap_or(0) as usize);
-    answers::route(&network, (source, departure), destination, list)
+    answers::route(&network, &closures, (source, departure), destination, list)
 }
 
 fn sheet(random: &mut Random) -> Result<Outcome, Difference> {
     let mut network = random_network(random);
     let source = random_junction(random, &network);
     let departures = random_list(random, &network);
+    let departure = departures.first().copied().unwrap_or(0);
+    let closures = random_closure_list(random, &network, (source, departure));
     let junctions = network.junctions as usize;
     let mut buffers = (departures.len() * junctions, FIGURES * junctions);
     if random.one_in(8) {
@@ -202,7 +216,7 @@ fn sheet(random: &mut Random) -> Result<Outcome, Difference> {
     if random.one_in(4) {
         damage_network(random, &mut network);
     }
-    answers::sheet(&network, source, &departures, buffers)
+    answers::sheet(&network, &closures, source, &departures, buffers)
 }
 
 fn load(random: &mut Random) -> Result<Outcome, Difference> {
@@ -344,6 +358,20 @@ fn random_start(random: &mut Random, network: &OwnedNetwork) -> (u32, u32) {
         random_departure(random, &network.fences)
     };
     (source, departure)
+}
+
+/// Closures at about the ticks of the question, at times not a list that is taken.
+fn random_closure_list(
+    random: &mut Random,
+    network: &OwnedNetwork,
+    (source, departure): (u32, u32),
+) -> Vec<Closure> {
+    let source = source % network.junctions;
+    let mut closures = random_closures(random, network, source, departure % DAY);
+    if random.one_in(8) {
+        damage_closures(random, network.arcs(), &mut closures);
+    }
+    closures
 }
 
 /// A sheet's departures, at times none, too many or one beyond its limit.

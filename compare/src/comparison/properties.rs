@@ -1,12 +1,17 @@
 //! Properties of the library's own answers, reckoned without the reference:
 //! tick by tick and walk by walk, as the documents define arrivals and labels.
 
+mod closures;
 mod forms;
 mod holds;
 mod intervals;
 mod midnight;
 mod sheets;
 
+pub use closures::{
+    CLOSED_AT_START, CLOSED_THROUGHOUT, CLOSURE_LIST, CLOSURES_AS_INTERVALS, MORE_CLOSED,
+    SAME_TICKS_CLOSED,
+};
 pub use forms::{
     COMMENTS_ADDED, CONVERTED_AS_WRITTEN, CONVERTED_TOWN, REFUSED_AS_LOADED, THERE_AND_BACK,
     converted_town, there_and_back,
@@ -16,16 +21,17 @@ pub use intervals::{INTERVALS_PASSED_ON, LABELS_BY_ARCS, LABELS_OF_PATHS, ONE_IN
 pub use midnight::{DAY_LATER, LABELS_ROTATED};
 pub use sheets::{SHEET_BY_LABELS, SHEET_SHUFFLED, SHEET_TWICE};
 
-use super::answers::{shown, shown_arc};
+use super::answers::{shown_arc, shown_closed};
 use super::{Check, Difference, Outcome};
 use crate::cabinet;
+use crate::inputs::closures::random_closures;
 use crate::inputs::networks::{
     LoneArc, improve, interval_at, random_arc, random_arc_departure, random_departure,
     random_network, random_towards, small_network,
 };
 use crate::inputs::{OwnedNetwork, Random};
 use crate::reference::limits::{DAY, LAST_TICK, NO_ARC, UNREACHED};
-use crate::reference::{Arrival, Refusal};
+use crate::reference::{Arrival, Closure, Refusal};
 
 pub const NON_PASSING: Check = Check {
     name: "non-passing",
@@ -83,7 +89,14 @@ fn non_passing(random: &mut Random) -> Result<Outcome, Difference> {
 fn arc_by_ticks(random: &mut Random) -> Result<Outcome, Difference> {
     let arc = random_arc(random);
     let departure = random_arc_departure(random, &arc.fences);
-    let tick = arrival_by_ticks(departure, arc.length, arc.hold, &arc.fences, &arc.speeds);
+    let tick = arrival_by_ticks(
+        departure,
+        arc.length,
+        arc.hold,
+        &arc.fences,
+        &arc.speeds,
+        |_| false,
+    );
     let expected = tick.map(|tick| arrival_at(&arc.fences, tick));
     expect_arrival(&arc, departure, expected)
 }
@@ -130,14 +143,16 @@ fn arrival_at(fences: &[u32], tick: u32) -> Arrival {
     }
 }
 
-/// Adds up the speed of each tick until the length is covered; it is that of the
-/// interval that contains the tick's remainder by the day. Then the hold is waited out.
+/// Adds up the speed of each tick until the length is covered; it is 0 if the arc is closed
+/// then, else that of the interval that contains the tick's remainder by the day. Then the
+/// hold is waited out.
 fn arrival_by_ticks(
     departure: u32,
     length: u32,
     hold: u32,
     fences: &[u32],
     speeds: &[u8],
+    closed: impl Fn(u32) -> bool,
 ) -> Option<u32> {
     let mut interval = 0;
     let mut spans = 0;
@@ -152,7 +167,9 @@ fn arrival_by_ticks(
         {
             interval += 1;
         }
-        spans += u32::from(speeds[interval]);
+        if !closed(tick) {
+            spans += u32::from(speeds[interval]);
+        }
         if spans >= 36 * length {
             return in_time(tick + 1 + hold);
         }
@@ -170,17 +187,18 @@ fn labels_by_walks(random: &mut Random) -> Result<Outcome, Difference> {
     let network = small_network(random);
     let source = random.below(network.junctions);
     let departure = random_departure(random, &network.fences);
-    let walks = Walks::all(&network, source, departure);
+    let closures = random_closures(random, &network, source, departure);
+    let walks = Walks::all(&network, &closures, source, departure);
     let expected = (&walks.labels, &walks.predecessors(), &walks.routes());
-    let (labels, predecessors) = cabinet_labels(&network, source, departure);
+    let (labels, predecessors) = cabinet_labels(&network, &closures, source, departure);
     let routes = (0..network.junctions)
-        .map(|destination| cabinet_route(&network, source, departure, destination))
+        .map(|destination| cabinet_route(&network, &closures, source, departure, destination))
         .collect();
     let found = (&labels, &predecessors, &routes);
     if found != expected {
         return Err(Difference {
             question: format!("labels and routes from {source} at {departure}"),
-            input: shown(&network),
+            input: shown_closed(&network, &closures),
             expected: format!("{expected:?}"),
             found: format!("{found:?}"),
         });
@@ -188,12 +206,18 @@ fn labels_by_walks(random: &mut Random) -> Result<Outcome, Difference> {
     Ok(Outcome::Answered)
 }
 
-fn cabinet_labels(network: &OwnedNetwork, source: u32, departure: u32) -> (Vec<u32>, Vec<u16>) {
+fn cabinet_labels(
+    network: &OwnedNetwork,
+    closures: &[Closure],
+    source: u32,
+    departure: u32,
+) -> (Vec<u32>, Vec<u16>) {
     let junctions = network.junctions as usize;
     let mut labels = vec![0; junctions];
     let mut predecessors = vec![0; junctions];
     let reply = cabinet::labels(
         &network.lent(),
+        closures,
         source,
         departure,
         &mut labels,
@@ -206,28 +230,55 @@ fn cabinet_labels(network: &OwnedNetwork, source: u32, departure: u32) -> (Vec<u
 /// The route, or `None` if the destination is unreached.
 fn cabinet_route(
     network: &OwnedNetwork,
+    closures: &[Closure],
     source: u32,
     departure: u32,
     destination: u32,
 ) -> Option<Vec<u16>> {
     let mut arcs = vec![0; network.junctions as usize];
-    let reply = cabinet::route(&network.lent(), source, departure, destination, &mut arcs);
+    let network = network.lent();
+    let reply = cabinet::route(
+        &network,
+        closures,
+        source,
+        departure,
+        destination,
+        &mut arcs,
+    );
     arcs.truncate(reply.ok()? as usize);
     Some(arcs)
+}
+
+/// What Labels, Route and Sheet say to an unknown source, with all after it wrong too.
+fn refused_by_the_source(network: &OwnedNetwork, closures: &[Closure]) -> [Result<(), Refusal>; 3] {
+    let network = &network.lent();
+    let unknown = network.junctions;
+    [
+        cabinet::labels(network, closures, unknown, DAY, &mut [], &mut []),
+        cabinet::route(network, closures, unknown, DAY, unknown, &mut []).map(drop),
+        cabinet::sheet(network, closures, unknown, &[], &mut [], &mut []),
+    ]
 }
 
 /// The least arrivals over all walks of at most as many arcs as junctions; a
 /// walk of more visits a junction twice, which never helps.
 struct Walks<'a> {
     network: &'a OwnedNetwork,
+    closures: &'a [Closure],
     source: usize,
     labels: Vec<u32>,
 }
 
 impl<'a> Walks<'a> {
-    fn all(network: &'a OwnedNetwork, source: u32, departure: u32) -> Self {
+    fn all(
+        network: &'a OwnedNetwork,
+        closures: &'a [Closure],
+        source: u32,
+        departure: u32,
+    ) -> Self {
         let mut walks = Self {
             network,
+            closures,
             source: source as usize,
             labels: vec![UNREACHED; network.junctions as usize],
         };
@@ -261,7 +312,13 @@ impl<'a> Walks<'a> {
         let network = self.network.lent();
         let (length, hold) = (network.lengths[arc], network.holds[arc].into());
         let speeds = network.arc_speeds(arc);
-        arrival_by_ticks(departure, length, hold, network.fences, speeds)
+        let of_arc = |closure: &&Closure| closure.arc as usize == arc;
+        let closures: Vec<&Closure> = self.closures.iter().filter(of_arc).collect();
+        let closed = |tick| {
+            let closes = |closure: &&Closure| closure.first <= tick && tick < closure.end;
+            closures.iter().any(closes)
+        };
+        arrival_by_ticks(departure, length, hold, network.fences, speeds, closed)
     }
 
     /// The lowest arc that attains the junction's label, if it has one.
@@ -303,16 +360,17 @@ impl<'a> Walks<'a> {
     }
 }
 
-/// More junctions and arcs, shorter and faster ones with shorter holds and an earlier
-/// departure, all together, make no label later.
+/// More junctions and arcs, shorter and faster ones with shorter holds, closed at fewer
+/// ticks, and an earlier departure, all together, make no label later.
 fn improvement(random: &mut Random) -> Result<Outcome, Difference> {
     let network = random_network(random);
-    let improved = improve(random, &network);
     let source = random.below(network.junctions);
     let departure = random_departure(random, &network.fences);
+    let closures = random_closures(random, &network, source, departure);
+    let (improved, fewer) = improve(random, &network, &closures);
     let earlier = random_towards(random, departure, 0);
-    let (labels, _) = cabinet_labels(&network, source, departure);
-    let (better, _) = cabinet_labels(&improved, source, earlier);
+    let (labels, _) = cabinet_labels(&network, &closures, source, departure);
+    let (better, _) = cabinet_labels(&improved, &fewer, source, earlier);
     if labels
         .iter()
         .zip(&better)
@@ -320,7 +378,11 @@ fn improvement(random: &mut Random) -> Result<Outcome, Difference> {
     {
         return Err(Difference {
             question: format!("from {source} at {departure}, improved at {earlier}"),
-            input: [shown(&network), shown(&improved)].concat(),
+            input: [
+                shown_closed(&network, &closures),
+                shown_closed(&improved, &fewer),
+            ]
+            .concat(),
             expected: format!("labels not after {labels:?}"),
             found: format!("{better:?}"),
         });

@@ -1,7 +1,9 @@
-//! Damage that makes a network or a town file most likely refused.
+//! Damage that makes a network, a list of closures or a town file most likely refused.
 
+mod closures;
 mod networks;
 mod texts;
 
+pub use closures::damage_closures;
 pub use networks::{damage_fences, damage_holds, damage_network, replace_one};
 pub use texts::damage_text;

@@ -4,11 +4,13 @@ use std::fmt;
 use std::mem;
 
 use super::Random;
+use super::closures::{random_closures, random_fewer_ticks};
 use super::grids::random_grid;
-use crate::reference::Network;
 use crate::reference::limits::{
-    DAY, LAST_TICK, MAX_ARCS, MAX_HOLD, MAX_INTERVALS, MAX_JUNCTIONS, MAX_LENGTH, MAX_SPEED,
+    DAY, LAST_TICK, MAX_ARCS, MAX_CLOSURES, MAX_HOLD, MAX_INTERVALS, MAX_JUNCTIONS, MAX_LENGTH,
+    MAX_SPEED, NO_ARC, UNREACHED,
 };
+use crate::reference::{self, Closure, Network};
 
 #[derive(Clone, Debug, Default, PartialEq)]
 pub struct OwnedNetwork {
@@ -38,6 +40,17 @@ impl OwnedNetwork {
         self.tails.len()
     }
 
+    /// The reference's labels and predecessors without closures, to choose inputs by.
+    pub(super) fn open_labels(&self, source: u32, departure: u32) -> (Vec<u32>, Vec<u16>) {
+        let mut labels = vec![UNREACHED; self.junctions as usize];
+        let mut predecessors = vec![NO_ARC; self.junctions as usize];
+        let network = self.lent();
+        let buffers = (&mut labels[..], &mut predecessors[..]);
+        let reply = reference::labels(&network, &[], source, departure, buffers.0, buffers.1);
+        reply.expect("a good question");
+        (labels, predecessors)
+    }
+
     /// The same streets on a day that starts at this tick of the present one: each
     /// speed is in force as many ticks earlier, and what was before the start comes
     /// at the end. There is a fence more unless one stands at the start.
@@ -48,9 +61,35 @@ impl OwnedNetwork {
             .map(|&fence| (fence + DAY - start) % DAY)
             .collect();
         fences.push(0);
+        self.with_fences(fences, start)
+    }
+
+    /// The plan that closes each day what the closures, all within the first day, close on
+    /// that day. It has a fence at every edge.
+    pub fn closed_daily(&self, closures: &[Closure]) -> Self {
+        let edges = closures
+            .iter()
+            .flat_map(|closure| [closure.first, closure.end % DAY]);
+        let fences = self.fences.iter().copied().chain(edges).collect();
+        let mut plan = self.with_fences(fences, 0);
+        let intervals = plan.fences.len();
+        for closure in closures {
+            let speeds = &mut plan.speeds[closure.arc as usize * intervals..][..intervals];
+            for (speed, &fence) in speeds.iter_mut().zip(&plan.fences) {
+                if closure.first <= fence && fence < closure.end {
+                    *speed = 0;
+                }
+            }
+        }
+        plan
+    }
+
+    /// The plan with these fences, in any order. The speeds from each on are those that
+    /// the present one has so many ticks later.
+    fn with_fences(&self, mut fences: Vec<u32>, later: u32) -> Self {
         fences.sort_unstable();
         fences.dedup();
-        let present = |&fence: &u32| interval_at(&self.fences, fence + start) as usize;
+        let present = |&fence: &u32| interval_at(&self.fences, fence + later) as usize;
         let intervals: Vec<usize> = fences.iter().map(present).collect();
         let network = self.lent();
         let speeds = (0..self.arcs()).flat_map(|arc| {
@@ -71,8 +110,8 @@ impl OwnedNetwork {
 
     /// Makes a junction of a held arc's stop line. From there the hold is driven out, a
     /// metre in each tick at 36, on an arc that keeps the number. The way to the stop line
-    /// gets a number after all others.
-    pub fn make_stop_line_a_junction(&mut self, arc: usize) {
+    /// gets a number after all others, which is returned.
+    pub fn make_stop_line_a_junction(&mut self, arc: usize) -> usize {
         let stop_line = self.junctions as u16;
         self.junctions += 1;
         let tail = mem::replace(&mut self.tails[arc], stop_line);
@@ -88,7 +127,9 @@ impl OwnedNetwork {
             speeds: speeds.to_vec(),
         };
         speeds.fill(36);
-        self.insert_arc(self.arcs(), way);
+        let number = self.arcs();
+        self.insert_arc(number, way);
+        number
     }
 
     pub(super) fn insert_arc(&mut self, place: usize, arc: Arc) {
@@ -207,12 +248,13 @@ fn network_of(random: &mut Random, junctions: u32, intervals: usize, arcs: usize
         fences: random_fences(random, intervals),
         ..OwnedNetwork::default()
     };
-    add_arcs(random, &mut network, arcs);
+    add_arcs(random, &mut network, arcs, &mut []);
     network
 }
 
-/// Puts arcs between the others, if there are two junctions to join.
-fn add_arcs(random: &mut Random, network: &mut OwnedNetwork, arcs: usize) {
+/// Puts arcs between the others, if there are two junctions to join, and counts up the
+/// numbers of those after them.
+fn add_arcs(random: &mut Random, network: &mut OwnedNetwork, arcs: usize, numbers: &mut [u32]) {
     if network.junctions < 2 {
         return;
     }
@@ -222,6 +264,9 @@ fn add_arcs(random: &mut Random, network: &mut OwnedNetwork, arcs: usize) {
         let place = random.index(network.arcs() + 1);
         let ends = random_ends(random, network.junctions);
         network.insert_arc(place, scale.arc(random, ends, intervals));
+        for number in &mut *numbers {
+            *number += u32::from(*number >= place as u32);
+        }
     }
 }
 
@@ -327,8 +372,13 @@ pub fn random_arc_departure(random: &mut Random, fences: &[u32]) -> u32 {
     }
 }
 
-/// More junctions, more arcs, shorter and faster ones with shorter holds, all together.
-pub fn improve(random: &mut Random, network: &OwnedNetwork) -> OwnedNetwork {
+/// More junctions, more arcs, shorter and faster ones with shorter holds and closed at fewer
+/// ticks, all together. Further arcs may be closed at any.
+pub fn improve(
+    random: &mut Random,
+    network: &OwnedNetwork,
+    closures: &[Closure],
+) -> (OwnedNetwork, Vec<Closure>) {
     let mut improved = network.clone();
     improved.junctions += random.below(MAX_JUNCTIONS + 1 - network.junctions);
     let chances = random.pick(&[1, 5, 100]);
@@ -349,8 +399,18 @@ pub fn improve(random: &mut Random, network: &OwnedNetwork) -> OwnedNetwork {
     }
     let room = MAX_ARCS - network.arcs();
     let arcs = random.index(room.min(40) + 1);
-    add_arcs(random, &mut improved, arcs);
-    improved
+    let mut numbers: Vec<u32> = (0..network.arcs() as u32).collect();
+    add_arcs(random, &mut improved, arcs, &mut numbers);
+
+    let mut fewer = random_fewer_ticks(random, closures);
+    for closure in &mut fewer {
+        closure.arc = numbers[closure.arc as usize];
+    }
+    let mut further = random_closures(random, &improved, 0, 0);
+    further.retain(|closure| !numbers.contains(&closure.arc));
+    fewer.extend(further);
+    fewer.truncate(MAX_CLOSURES);
+    (improved, fewer)
 }
 
 /// A number from the value to the bound, often near the value.
@@ -393,6 +453,24 @@ mod tests {
     }
 
     #[test]
+    fn closes_daily_by_a_plan() {
+        let network = OwnedNetwork {
+            junctions: 3,
+            fences: vec![0, 100],
+            tails: vec![0, 1],
+            heads: vec![1, 2],
+            lengths: vec![50, 100],
+            holds: vec![0, 5],
+            speeds: vec![36, 18, 40, 20],
+        };
+        let closure = |arc, first, end| Closure { arc, first, end };
+        let plan = network.closed_daily(&[closure(1, 60, 110), closure(0, 863_999, 864_000)]);
+        assert_eq!(plan.fences, [0, 60, 100, 110, 863_999]);
+        assert_eq!(plan.speeds, [36, 36, 18, 18, 0, 40, 0, 0, 20, 20]);
+        assert_eq!(network.closed_daily(&[]), network);
+    }
+
+    #[test]
     fn makes_a_stop_line_a_junction() {
         let mut network = OwnedNetwork {
             junctions: 3,
@@ -403,7 +481,7 @@ mod tests {
             holds: vec![5, 7],
             speeds: vec![36, 18, 40, 20],
         };
-        network.make_stop_line_a_junction(0);
+        assert_eq!(network.make_stop_line_a_junction(0), 2);
         let expected = OwnedNetwork {
             junctions: 4,
             fences: vec![0, 100],

@@ -3,8 +3,10 @@
 use super::grids::street_grid;
 use super::texts::{pad, town_text};
 use super::{OwnedNetwork, Random};
-use crate::reference::Form;
-use crate::reference::limits::{DAY, MAX_ARCS, MAX_DEPARTURES, MAX_HOLD, MAX_INTERVALS, MAX_TEXT};
+use crate::reference::limits::{
+    DAY, MAX_ARCS, MAX_DEPARTURES, MAX_HOLD, MAX_INTERVALS, MAX_TEXT, NO_ARC,
+};
+use crate::reference::{Closure, Form};
 
 pub struct Town {
     pub name: &'static str,
@@ -17,8 +19,10 @@ pub struct Town {
 pub const SOURCE: u32 = 0;
 pub const DEPARTURE: u32 = 8 * 36_000;
 
+const TEN_MINUTES: u32 = 6_000;
+
 /// Ten minutes before midnight, so that most walks of every town cross it.
-pub const EVENING: u32 = DAY - 6_000;
+pub const EVENING: u32 = DAY - TEN_MINUTES;
 
 /// As many as a sheet takes, a quarter of an hour apart.
 pub fn departures() -> Vec<u32> {
@@ -35,6 +39,8 @@ fn names(network: &OwnedNetwork) -> Vec<(u32, String)> {
 
 impl Town {
     pub const NAMES: [&str; 4] = ["small", "middle", LARGE, "full"];
+    /// The town that is asked about with closures.
+    pub const CLOSED: &str = LARGE;
 
     pub fn named(name: &str) -> Option<Self> {
         match name {
@@ -97,6 +103,31 @@ impl Town {
             pad(&mut self.text, most);
         }
         self
+    }
+
+    /// So many records. Each closes an arc for ten minutes, from the middle of the time on
+    /// that the question is on it. The arcs are predecessors, spread evenly over the order in
+    /// which they are left, from the first on.
+    pub fn closures(&self, count: usize) -> Vec<Closure> {
+        let (labels, predecessors) = self.network.open_labels(SOURCE, DEPARTURE);
+        let mut drives: Vec<(u32, u32, u16)> = Vec::new();
+        for (&reached, arc) in labels.iter().zip(predecessors) {
+            if arc != NO_ARC {
+                let tail = self.network.tails[usize::from(arc)];
+                drives.push((labels[usize::from(tail)], reached, arc));
+            }
+        }
+        drives.sort_unstable();
+        let closure = |record: usize| {
+            let (left, reached, arc) = drives[record * drives.len() / count];
+            let first = left.midpoint(reached);
+            Closure {
+                arc: arc.into(),
+                first,
+                end: first + TEN_MINUTES,
+            }
+        };
+        (0..count).map(closure).collect()
     }
 
     /// The corner opposite to the source.

@@ -1,6 +1,8 @@
-use super::Refusal;
+use std::ops::ControlFlow;
+
 use super::limits::{DAY, LAST_TICK, SPANS_PER_METRE};
 use super::network::{check_fence_count, check_fences, check_hold, check_length, check_speeds};
+use super::{Closure, Refusal};
 
 /// A tick of arrival and the interval that contains its remainder by the day.
 #[derive(Clone, Copy, Debug, PartialEq, Eq)]
@@ -26,7 +28,7 @@ pub fn arc_arrival(
     check_hold(hold)?;
     Refusal::DEPARTURE_AFTER_LAST.unless(departure <= LAST_TICK)?;
     Refusal::DEPARTURE_INTERVAL.unless(contains(fences, interval, departure % DAY))?;
-    Ok(Departure::new(departure, interval).drive(length, hold, fences, speeds))
+    Ok(Departure::new(departure, interval).drive(length, hold, fences, speeds, &[]))
 }
 
 /// Whether there is this interval and it contains the tick of the first day.
@@ -43,7 +45,11 @@ pub(super) fn interval_at(tick: u32, fences: &[u32]) -> u32 {
     fences.partition_point(|&fence| fence <= tick) as u32 - 1
 }
 
+/// What a drive ends with, or the spans that are left of it.
+type Drive = ControlFlow<Option<Arrival>, u32>;
+
 /// A tick at which arcs are left, and where in its day it lies.
+#[derive(Clone, Copy)]
 pub(super) struct Departure {
     tick: u32,
     /// The tick at which its day starts.
@@ -61,35 +67,87 @@ impl Departure {
         }
     }
 
-    /// Drives a checked arc, day by day: at midnight its speeds start again. At its end
-    /// the hold is waited out.
+    /// Drives a checked arc, and stands on it while it is closed. At its end the hold is
+    /// waited out. The closures are in the order of their ticks.
     #[inline]
-    pub fn drive(&self, length: u32, hold: u32, fences: &[u32], speeds: &[u8]) -> Option<Arrival> {
+    pub fn drive(
+        self,
+        length: u32,
+        hold: u32,
+        fences: &[u32],
+        speeds: &[u8],
+        closures: &[Closure],
+    ) -> Option<Arrival> {
+        let spans = SPANS_PER_METRE * length;
+        let drive = if closures.is_empty() {
+            self.drive_open(None, spans, hold, fences, speeds)
+        } else {
+            self.drive_between(closures, spans, hold, fences, speeds)
+        };
+        drive.break_value().flatten()
+    }
+
+    /// Drives up to each closure that is to come, and on from its end.
+    fn drive_between(
+        mut self,
+        closures: &[Closure],
+        mut spans: u32,
+        hold: u32,
+        fences: &[u32],
+        speeds: &[u8],
+    ) -> Drive {
+        for closure in closures {
+            if self.tick < closure.first {
+                spans = self.drive_open(Some(closure.first), spans, hold, fences, speeds)?;
+            }
+            if self.tick < closure.end {
+                let interval = interval_at(closure.end % DAY, fences);
+                self = Self::new(closure.end, interval);
+            }
+        }
+        self.drive_open(None, spans, hold, fences, speeds)
+    }
+
+    /// Drives so many spans, day by day: at midnight the speeds start again. Stops at the
+    /// given tick, or else at the last one, if they are not covered by then.
+    #[inline(always)]
+    fn drive_open(
+        self,
+        until: Option<u32>,
+        spans: u32,
+        hold: u32,
+        fences: &[u32],
+        speeds: &[u8],
+    ) -> Drive {
         let mut tick = self.tick;
-        let mut remaining = SPANS_PER_METRE * length;
+        let mut remaining = spans;
         let mut midnight = self.midnight;
         let mut first = self.interval;
         // The last tick is itself a midnight, so no day reaches beyond it.
         while midnight < LAST_TICK {
             for (interval, &speed) in speeds.iter().enumerate().skip(first) {
                 let end = midnight + fences.get(interval + 1).copied().unwrap_or(DAY);
+                let stop = until.map_or(end, |until| until.min(end));
                 let speed = u32::from(speed);
-                let covered = speed * (end - tick);
+                let covered = speed * (stop - tick);
                 if remaining <= covered {
                     let tick = tick + remaining.div_ceil(speed) + hold;
                     if tick < end {
                         let interval = interval as u32;
-                        return Some(Arrival { tick, interval });
+                        return Drive::Break(Some(Arrival { tick, interval }));
                     }
-                    return arrival_after(interval, midnight, tick, fences);
+                    return Drive::Break(arrival_after(interval, midnight, tick, fences));
                 }
                 remaining -= covered;
+                if until == Some(stop) {
+                    return Drive::Continue(remaining);
+                }
                 tick = end;
             }
             midnight += DAY;
             first = 0;
         }
-        None
+        Drive::Continue(remaining)
     }
 }
 

@@ -10,7 +10,7 @@ pub fn host_question(text: &[u8], source: u32, departure: u32, destination: u32)
 
 fn answer(text: &[u8], source: u32, departure: u32, destination: u32) -> Result<u32, Refusal> {
     let town = Town::read(text).map_err(|LoadRefusal { refusal, .. }| refusal)?;
-    let reached = reach(&town.network(), source, departure, destination)?;
+    let reached = reach(&town.network(), &[], source, departure, destination)?;
     Ok(reached.label)
 }
 

@@ -2,24 +2,32 @@ use std::cmp::Reverse;
 use std::collections::BinaryHeap;
 
 use super::arc::{Departure, interval_at};
+use super::closures::{ClosedArcs, check_closures};
 use super::limits::{DAY, NO_ARC, UNREACHED};
-use super::{Network, Refusal, network_check};
+use super::{Closure, Network, Refusal, network_check};
 
 /// Writes every junction's label and predecessor.
 pub fn labels(
     network: &Network,
+    closures: &[Closure],
     source: u32,
     departure: u32,
     labels: &mut [u32],
     predecessors: &mut [u16],
 ) -> Result<(), Refusal> {
-    network_check(network)?;
+    check_with_closures(network, closures)?;
     check_start(network.junctions, source, departure)?;
     let junctions = network.junctions as usize;
     let exact = labels.len() == junctions && predecessors.len() == junctions;
     Refusal::BUFFER_LENGTHS.unless(exact)?;
-    Search::new(network).run(source, departure, labels, predecessors);
+    Search::new(network, closures).run(source, departure, labels, predecessors);
     Ok(())
+}
+
+/// The network's own numbers, then the closures'.
+pub(super) fn check_with_closures(network: &Network, closures: &[Closure]) -> Result<(), Refusal> {
+    network_check(network)?;
+    check_closures(network.tails.len(), closures)
 }
 
 pub(super) fn check_start(junctions: u32, source: u32, departure: u32) -> Result<(), Refusal> {
@@ -35,17 +43,19 @@ pub(super) fn check_departure(departure: u32) -> Result<(), Refusal> {
     Refusal::DEPARTURE.unless(departure < DAY)
 }
 
-/// A checked network, ready to be labelled from any source at any departure.
+/// A checked network with its closures, ready to be labelled from any source at any departure.
 pub(super) struct Search<'n> {
     network: Network<'n>,
     arcs_out: ArcsOut,
+    closed: ClosedArcs,
 }
 
 impl<'n> Search<'n> {
-    pub fn new(network: &Network<'n>) -> Self {
+    pub fn new(network: &Network<'n>, closures: &[Closure]) -> Self {
         Self {
             network: *network,
             arcs_out: ArcsOut::new(network),
+            closed: ClosedArcs::new(network.tails.len(), closures),
         }
     }
 
@@ -76,7 +86,9 @@ impl<'n> Search<'n> {
                 let length = network.lengths[arc];
                 let hold = network.holds[arc].into();
                 let speeds = network.arc_speeds(arc);
-                let Some(arrival) = start.drive(length, hold, network.fences, speeds) else {
+                let closures = self.closed.of(arc);
+                let drive = start.drive(length, hold, network.fences, speeds, closures);
+                let Some(arrival) = drive else {
                     continue;
                 };
                 if arrival.tick < *label {
@@ -130,10 +142,20 @@ mod tests {
     use crate::inputs::examples::TOWN;
 
     fn labelled(network: &Network, source: u32, departure: u32) -> (Vec<u32>, Vec<u16>) {
+        closed(network, &[], source, departure)
+    }
+
+    fn closed(
+        network: &Network,
+        closures: &[Closure],
+        source: u32,
+        departure: u32,
+    ) -> (Vec<u32>, Vec<u16>) {
         let junctions = network.junctions as usize;
         let mut ticks = vec![7; junctions];
         let mut predecessors = vec![7; junctions];
-        labels(network, source, departure, &mut ticks, &mut predecessors).expect("accepted");
+        let buffers = (&mut ticks[..], &mut predecessors[..]);
+        labels(network, closures, source, departure, buffers.0, buffers.1).expect("accepted");
         (ticks, predecessors)
     }
 
@@ -266,6 +288,59 @@ mod tests {
         }
     }
 
+    fn closure(arc: u32, first: u32, end: u32) -> Closure {
+        Closure { arc, first, end }
+    }
+
+    #[test]
+    fn stands_while_the_arc_is_closed() {
+        // Arc 0 takes the ticks from 10 to 59, a metre in each.
+        for (closures, label) in [
+            (&[closure(0, 0, 10)][..], 60),
+            (&[closure(0, 0, 11)], 61),
+            (&[closure(0, 10, 20)], 70),
+            (&[closure(0, 59, 60)], 61),
+            (&[closure(0, 60, 90)], 60),
+            (&[closure(0, 40, 50), closure(0, 20, 30)], 80),
+            (&[closure(0, 20, 30), closure(0, 30, 40)], 80),
+            (&[closure(0, 20, 35), closure(0, 25, 40)], 80),
+            // At 18 from the fence at 100 on: 20 metres are left, then 10.
+            (&[closure(0, 40, 100)], 140),
+            (&[closure(0, 40, 90)], 120),
+        ] {
+            let (ticks, predecessors) = closed(&TOWN, closures, 0, 10);
+            assert_eq!(ticks, [10, label, 100]);
+            assert_eq!(predecessors, [NO_ARC, 0, 1]);
+        }
+    }
+
+    #[test]
+    fn closes_real_ticks_only() {
+        let (ticks, _) = closed(&TOWN, &[closure(0, 863_990, 864_010)], 0, 863_980);
+        // Five metres before midnight at 18, the others after 864,010 at 36.
+        assert_eq!(ticks[1], 864_055);
+        let (ticks, _) = closed(&TOWN, &[closure(0, 0, 50)], 0, 863_980);
+        assert_eq!(ticks[1], labelled(&TOWN, 0, 863_980).0[1]);
+        let (ticks, predecessors) = closed(&TOWN, &[closure(0, 10, 1_728_000)], 0, 10);
+        assert_eq!(ticks, [10, UNREACHED, 100]);
+        assert_eq!(predecessors, [NO_ARC, NO_ARC, 1]);
+    }
+
+    #[test]
+    fn holds_on_while_the_arc_is_closed() {
+        let network = Network {
+            holds: &[20, 0, 0],
+            ..TOWN
+        };
+        for (closures, label) in [
+            (&[closure(0, 60, 1_728_000)][..], 80),
+            (&[closure(0, 59, 61)], 82),
+            (&[closure(0, 50, 75)], 105),
+        ] {
+            assert_eq!(closed(&network, closures, 0, 10).0[1], label);
+        }
+    }
+
     #[test]
     fn drives_no_arc_out_of_an_unreached_tail() {
         let network = Network {
@@ -287,17 +362,22 @@ mod tests {
             holds: &[0, 0, 1_201],
             ..TOWN
         };
-        for (network, source, departure, lengths, number) in [
-            (&bad, 3, 864_000, (2, 2), 8),
-            (&held, 3, 864_000, (2, 2), 32),
-            (&TOWN, 3, 864_000, (2, 2), 9),
-            (&TOWN, 2, 864_000, (2, 2), 10),
-            (&TOWN, 2, 863_999, (2, 3), 11),
-            (&TOWN, 2, 863_999, (3, 4), 11),
+        let unknown = [closure(3, 0, 1); 65];
+        let good = [closure(2, 0, 1); 64];
+        for (network, closures, source, departure, lengths, number) in [
+            (&bad, &unknown[..], 3, 864_000, (2, 2), 8),
+            (&held, &unknown, 3, 864_000, (2, 2), 32),
+            (&TOWN, &unknown, 3, 864_000, (2, 2), 36),
+            (&TOWN, &unknown[1..], 3, 864_000, (2, 2), 37),
+            (&TOWN, &good, 3, 864_000, (2, 2), 9),
+            (&TOWN, &good, 2, 864_000, (2, 2), 10),
+            (&TOWN, &good, 2, 863_999, (2, 3), 11),
+            (&TOWN, &good, 2, 863_999, (3, 4), 11),
         ] {
             let mut ticks = vec![7; lengths.0];
             let mut predecessors = vec![7; lengths.1];
-            let reply = labels(network, source, departure, &mut ticks, &mut predecessors);
+            let buffers = (&mut ticks[..], &mut predecessors[..]);
+            let reply = labels(network, closures, source, departure, buffers.0, buffers.1);
             assert_eq!(reply.unwrap_err().0, number);
             assert!(ticks.iter().all(|&tick| tick == 7));
             assert!(predecessors.iter().all(|&arc| arc == 7));

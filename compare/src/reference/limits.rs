@@ -18,6 +18,9 @@ pub const MAX_HOLD: u16 = 1_200;
 /// In km/h, which is spans per tick.
 pub const MAX_SPEED: u8 = 200;
 
+/// Records in one list of closures.
+pub const MAX_CLOSURES: usize = 64;
+
 /// Departures on one sheet.
 pub const MAX_DEPARTURES: usize = 96;
 /// What a sheet tells of each junction.

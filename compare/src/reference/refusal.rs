@@ -33,6 +33,8 @@ impl Refusal {
     pub const WANTED_FORM: Self = Self(33);
     pub const HELD: Self = Self(34);
     pub const RESULT_TOO_LONG: Self = Self(35);
+    pub const CLOSURE_COUNT: Self = Self(36);
+    pub const CLOSURE: Self = Self(37);
     pub const DEPARTURE_INTERVAL: Self = Self(46);
 
     /// Refuses unless the condition holds.

@@ -1,17 +1,18 @@
-use super::labels::{Search, check_start};
+use super::labels::{Search, check_start, check_with_closures};
 use super::limits::{NO_ARC, UNREACHED};
-use super::{Network, Refusal, network_check};
+use super::{Closure, Network, Refusal};
 
 /// Writes the route's arcs in driving order and returns their count.
 pub fn route(
     network: &Network,
+    closures: &[Closure],
     source: u32,
     departure: u32,
     destination: u32,
     arcs: &mut [u16],
 ) -> Result<u32, Refusal> {
-    network_check(network)?;
-    let reached = reach(network, source, departure, destination)?;
+    check_with_closures(network, closures)?;
+    let reached = reach(network, closures, source, departure, destination)?;
     let route = reached.route(network);
     let list = arcs.get_mut(..route.len()).ok_or(Refusal::LIST_TOO_SHORT)?;
     list.copy_from_slice(&route);
@@ -40,9 +41,10 @@ impl Reached {
     }
 }
 
-/// Labels a checked network for one question, with refusals 9 to 13.
+/// Labels a checked network with its closures for one question, with refusals 9 to 13.
 pub(super) fn reach(
     network: &Network,
+    closures: &[Closure],
     source: u32,
     departure: u32,
     destination: u32,
@@ -52,7 +54,7 @@ pub(super) fn reach(
     let destination = destination as usize;
     let mut labels = vec![UNREACHED; network.junctions as usize];
     let mut predecessors = vec![NO_ARC; network.junctions as usize];
-    Search::new(network).run(source, departure, &mut labels, &mut predecessors);
+    Search::new(network, closures).run(source, departure, &mut labels, &mut predecessors);
     let label = labels[destination];
     Refusal::UNREACHED.unless(label != UNREACHED)?;
     Ok(Reached {
@@ -68,9 +70,20 @@ mod tests {
     use crate::inputs::examples::TOWN;
 
     fn found(network: &Network, source: u32, departure: u32, destination: u32) -> (u32, Vec<u16>) {
-        let reached = reach(network, source, departure, destination).expect("reached");
+        closed(network, &[], source, departure, destination)
+    }
+
+    fn closed(
+        network: &Network,
+        closures: &[Closure],
+        source: u32,
+        departure: u32,
+        destination: u32,
+    ) -> (u32, Vec<u16>) {
+        let reached = reach(network, closures, source, departure, destination).expect("reached");
         let mut arcs = [7; 3];
-        let count = route(network, source, departure, destination, &mut arcs).expect("accepted");
+        let reply = route(network, closures, source, departure, destination, &mut arcs);
+        let count = reply.expect("accepted");
         let (arcs, behind) = arcs.split_at(count as usize);
         assert!(behind.iter().all(|&arc| arc == 7));
         (reached.label, arcs.to_vec())
@@ -94,6 +107,18 @@ mod tests {
     }
 
     #[test]
+    fn goes_around_a_closure() {
+        for (end, route) in [(20, (110, vec![1])), (21, (110, vec![0, 2]))] {
+            let closures = [Closure {
+                arc: 1,
+                first: 15,
+                end,
+            }];
+            assert_eq!(closed(&TOWN, &closures, 0, 10, 2), route);
+        }
+    }
+
+    #[test]
     fn goes_from_the_source_to_itself_by_no_arc() {
         assert_eq!(found(&TOWN, 2, 863_999, 2), (863_999, vec![]));
     }
@@ -108,17 +133,24 @@ mod tests {
             holds: &[1_201, 0, 0],
             ..TOWN
         };
-        for (network, source, departure, destination, number) in [
-            (&bad, 3, 864_000, 3, 6),
-            (&held, 3, 864_000, 3, 32),
-            (&TOWN, 3, 864_000, 3, 9),
-            (&TOWN, 0, 864_000, 3, 10),
-            (&TOWN, 2, 100, 3, 12),
-            (&TOWN, 2, 100, 0, 13),
-            (&TOWN, 0, 100, 2, 14),
+        let empty = [Closure {
+            arc: 0,
+            first: 9,
+            end: 9,
+        }; 65];
+        for (network, closures, source, departure, destination, number) in [
+            (&bad, &empty[..], 3, 864_000, 3, 6),
+            (&held, &empty, 3, 864_000, 3, 32),
+            (&TOWN, &empty, 3, 864_000, 3, 36),
+            (&TOWN, &empty[1..], 3, 864_000, 3, 37),
+            (&TOWN, &[], 3, 864_000, 3, 9),
+            (&TOWN, &[], 0, 864_000, 3, 10),
+            (&TOWN, &[], 2, 100, 3, 12),
+            (&TOWN, &[], 2, 100, 0, 13),
+            (&TOWN, &[], 0, 100, 2, 14),
         ] {
             let mut arcs = [7; 1];
-            let reply = route(network, source, departure, destination, &mut arcs);
+            let reply = route(network, closures, source, departure, destination, &mut arcs);
             assert_eq!(reply.unwrap_err().0, number);
             assert_eq!(arcs, [7; 1]);
         }

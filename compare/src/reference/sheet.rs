@@ -1,23 +1,24 @@
-use super::labels::{Search, check_departure, check_source};
+use super::labels::{Search, check_departure, check_source, check_with_closures};
 use super::limits::{FIGURES, MAX_DEPARTURES, NO_ARC, UNREACHED};
-use super::{Network, Refusal, network_check};
+use super::{Closure, Network, Refusal};
 
 /// Writes a row of labels for each departure, and for each junction how many
 /// departures reach it and the least, the greatest and the sum of the journeys.
 pub fn sheet(
     network: &Network,
+    closures: &[Closure],
     source: u32,
     departures: &[u32],
     labels: &mut [u32],
     figures: &mut [u32],
 ) -> Result<(), Refusal> {
-    network_check(network)?;
+    check_with_closures(network, closures)?;
     check_departures(network.junctions, source, departures)?;
     let junctions = network.junctions as usize;
     let exact =
         labels.len() == departures.len() * junctions && figures.len() == FIGURES * junctions;
     Refusal::SHEET_LENGTHS.unless(exact)?;
-    fill(network, source, departures, labels, figures);
+    fill(network, closures, source, departures, labels, figures);
     Ok(())
 }
 
@@ -36,12 +37,13 @@ pub(super) fn check_departures(
 /// Fills both buffers of a checked question.
 pub(super) fn fill(
     network: &Network,
+    closures: &[Closure],
     source: u32,
     departures: &[u32],
     labels: &mut [u32],
     figures: &mut [u32],
 ) {
-    let search = Search::new(network);
+    let search = Search::new(network, closures);
     let mut predecessors = vec![NO_ARC; network.junctions as usize];
     let rows = labels.chunks_exact_mut(network.junctions as usize);
     let (figures, _) = figures.as_chunks_mut();
@@ -73,10 +75,20 @@ mod tests {
     use crate::inputs::examples::{TABLE_1, TOWN};
 
     fn filled(network: &Network, source: u32, departures: &[u32]) -> (Vec<u32>, Vec<u32>) {
+        closed(network, &[], source, departures)
+    }
+
+    fn closed(
+        network: &Network,
+        closures: &[Closure],
+        source: u32,
+        departures: &[u32],
+    ) -> (Vec<u32>, Vec<u32>) {
         let junctions = network.junctions as usize;
         let mut labels = vec![7; departures.len() * junctions];
         let mut figures = vec![7; 4 * junctions];
-        sheet(network, source, departures, &mut labels, &mut figures).expect("accepted");
+        let buffers = (&mut labels[..], &mut figures[..]);
+        sheet(network, closures, source, departures, buffers.0, buffers.1).expect("accepted");
         (labels, figures)
     }
 
@@ -105,6 +117,18 @@ mod tests {
         let (labels, figures) = filled(&network, 0, &[100, 10]);
         assert_eq!(labels, [100, 205, 255, 10, 65, 100]);
         assert_eq!(figures, [2, 0, 0, 0, 2, 55, 105, 160, 2, 90, 155, 245]);
+    }
+
+    #[test]
+    fn closes_in_every_row() {
+        let closures = [Closure {
+            arc: 0,
+            first: 0,
+            end: 110,
+        }];
+        let (labels, figures) = closed(&TOWN, &closures, 0, &[100, 10]);
+        assert_eq!(labels, [100, 210, 260, 10, 210, 100]);
+        assert_eq!(figures, [2, 0, 0, 0, 2, 110, 200, 310, 2, 90, 160, 250]);
     }
 
     #[test]
@@ -155,6 +179,17 @@ mod tests {
         };
         let late = [0, 864_000];
         let many = [864_000; 97];
+        let late_end = [Closure {
+            arc: 0,
+            first: 9,
+            end: 1_728_001,
+        }; 65];
+        for (closures, number) in [(&late_end[..], 36), (&late_end[1..], 37)] {
+            let reply = sheet(&TOWN, closures, 3, &many, &mut [7; 2], &mut [7; 2]);
+            assert_eq!(reply.unwrap_err().0, number);
+            let reply = sheet(&held, closures, 3, &many, &mut [7; 2], &mut [7; 2]);
+            assert_eq!(reply.unwrap_err().0, 32);
+        }
         for (network, source, departures, lengths, number) in [
             (&bad, 3, &many[..], (2, 2), 7),
             (&held, 3, &many, (2, 2), 32),
@@ -173,7 +208,7 @@ mod tests {
         ] {
             let mut labels = vec![7; lengths.0];
             let mut figures = vec![7; lengths.1];
-            let reply = sheet(network, source, departures, &mut labels, &mut figures);
+            let reply = sheet(network, &[], source, departures, &mut labels, &mut figures);
             assert_eq!(reply.unwrap_err().0, number);
             assert!(labels.iter().all(|&label| label == 7));
             assert!(figures.iter().all(|&figure| figure == 7));

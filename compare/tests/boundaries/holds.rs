@@ -20,8 +20,8 @@ fn numbers(network: &OwnedNetwork) -> [u32; 4] {
     let start = (0, DEPARTURE);
     [
         number(answers::network_check(network)),
-        number(answers::labels(network, start, (10, 10))),
-        number(answers::route(network, start, 9, 10)),
+        number(answers::labels(network, &[], start, (10, 10))),
+        number(answers::route(network, &[], start, 9, 10)),
         sheet_number(network, 0, &[DEPARTURE], (10, 40)),
     ]
 }
@@ -166,7 +166,7 @@ fn numbers_after_a_hold() {
         network.holds[LAST_ARC] = hold;
         // Each number alone, and with all later ones.
         let expect = |number| if before == 0 { number } else { before };
-        let labels = |start, buffers| number(answers::labels(&network, start, buffers));
+        let labels = |start, buffers| number(answers::labels(&network, &[], start, buffers));
         assert_eq!(labels((10, 0), (10, 10)), expect(9));
         assert_eq!(labels((10, 864_000), (9, 11)), expect(9));
         assert_eq!(labels((9, 864_000), (10, 10)), expect(10));
@@ -174,8 +174,9 @@ fn numbers_after_a_hold() {
         assert_eq!(labels((9, 0), (9, 10)), expect(11));
         assert_eq!(labels((9, 0), (10, 11)), expect(11));
 
-        let route =
-            |start, destination, list| number(answers::route(&network, start, destination, list));
+        let route = |start, destination, list| {
+            number(answers::route(&network, &[], start, destination, list))
+        };
         assert_eq!(route((10, 864_000), 10, 0), expect(9));
         assert_eq!(route((9, 864_000), 10, 0), expect(10));
         assert_eq!(route((9, 0), 10, 0), expect(12));
@@ -380,7 +381,7 @@ fn the_shorter_hold_wins() {
             let expected = (ticks.to_vec(), vec![NO_ARC, predecessor, 3]);
             assert_eq!(labels(&network, departure), expected);
             let mut arcs = [7; 3];
-            let count = cabinet::route(&network.lent(), 0, departure, 2, &mut arcs);
+            let count = cabinet::route(&network.lent(), &[], 0, departure, 2, &mut arcs);
             assert_eq!((count, arcs), (Ok(2), [predecessor, 3, 7]));
         }
     }
@@ -430,7 +431,7 @@ fn a_walk_of_longest_holds() {
         let (ticks, _) = labels(&network, departure);
         let expected: Vec<u32> = (departure..).step_by(1_201).take(200).collect();
         assert_eq!(ticks, expected);
-        assert_answered([answers::route(&network, (0, departure), 199, 199)]);
+        assert_answered([answers::route(&network, &[], (0, departure), 199, 199)]);
     }
 }
 
@@ -462,7 +463,13 @@ fn unreached_by_a_hold() {
             let arc = junction as u16 - 1;
             let predecessor = if label == late { NO_ARC } else { arc };
             assert_eq!(predecessors[junction], predecessor);
-            let route = number(answers::route(&network, (0, start), junction as u32, 3));
+            let route = number(answers::route(
+                &network,
+                &[],
+                (0, start),
+                junction as u32,
+                3,
+            ));
             assert_eq!(route, if label == late { 13 } else { 0 });
         }
         // From 0 all are reached; on a sheet with both, each row by itself.
@@ -470,7 +477,14 @@ fn unreached_by_a_hold() {
         let mut rows = [7; 12];
         let mut figures = [7; 16];
         let departures = [start, 0, start];
-        let reply = cabinet::sheet(&network.lent(), 0, &departures, &mut rows, &mut figures);
+        let reply = cabinet::sheet(
+            &network.lent(),
+            &[],
+            0,
+            &departures,
+            &mut rows,
+            &mut figures,
+        );
         assert_eq!(reply, Ok(()));
         assert_eq!(rows[..4], expected);
         assert_eq!(rows[4..8], early);

@@ -4,7 +4,7 @@
 use Prim.Native.Nat.{ℕ, zero, suc, _+_, _≤_, _<_}
 use mathlib.Core.Path.{_≡_, refl, sym, subst, _∙_}
 use mathlib.Core.Bool.{false}
-use mathlib.Core.List.{List, _++_}
+use mathlib.Core.List.{List, [], _++_}
 use mathlib.Core.Logic.{_⊎_, inl, inr}
 use native.Mathlib.Omega.{arith}
 use lib.ListN.{length, getD, take}
@@ -12,16 +12,16 @@ use borrow.Author.Tests.{not-false, ltb-true, eqb-false}
 use Rattle.model.specs.Ticks.{day, last, never}
 use Rattle.model.specs.Limits.{maxJunctions}
 use Rattle.model.specs.Network.{Network, Accepted, netOf}
-use Rattle.model.specs.NetworkRules.{networkRules, networkCheck}
 use Rattle.model.specs.Demands.{label}
 use Rattle.model.specs.Routes.{routeOf}
 use Rattle.refusals.specs.Refusals.{refusalBase}
 use Rattle.model.specs.Rules.{Outcome, refused, replied, Rule, _if_, AllKept}
 use Rattle.model.proofs.Demands.{demand-2}
-use Rattle.model.proofs.NetworkRules.{accepts-when-kept}
 use Rattle.model.proofs.Walks.{arrives-by-last}
-use Rattle.model.proofs.Rules.{refused-exactly-when, replies-kept, kept-before}
+use Rattle.model.proofs.Rules.{refused-exactly-when, kept-before}
+use Rattle.checking.specs.ClosedNetwork.{closedNetworkRules}
 use Rattle.checking.specs.Question.{startRules}
+use Rattle.checking.proofs.QuestionRules.{no-closures-keep, open-kept}
 use Rattle.routing.specs.Route.{Routable, destinationRules, foundRules, routeAnswer}
 use Rattle.routing.proofs.RouteRules.{route-replies-when-routable, room-for-every-route}
 use Rattle.townfile.specs.FirstFault.{Reading, refusedAt, accepted, firstFault}
@@ -47,7 +47,8 @@ loads text bytes = go (firstFault text) refl
 
 -- ---- The answer
 
-module _ (N : Network) (kept : Accepted N) (source departure destination : ℕ) where
+-- a town's network, which has no closures
+module _ (N : Network) (none : N .closures ≡ []) (kept : Accepted N) (source departure destination : ℕ) where
   abbrev answer : Outcome ℕ
   answer = routeAnswer N source departure destination hostList
 
@@ -73,7 +74,9 @@ module _ (N : Network) (kept : Accepted N) (source departure destination : ℕ) 
   route-found : source < N .junctions → departure < day → destination < N .junctions → (arrival ≡ never → ⊥) →
       answer ≡ replied (length (routeOf (netOf N) source departure destination))
   route-found source-below departure-below destination-below reached =
-      room-for-every-route N source departure destination hostList kept source-below departure-below destination-below reached (zeros-long maxJunctions (omega arith))
+      room-for-every-route N source departure destination hostList
+      (record { accepted = kept; closures-kept = no-closures-keep none; source-below = source-below; departure-below = departure-below })
+      destination-below reached (zeros-long maxJunctions (omega arith))
 
   earliest-answered : source < N .junctions → departure < day → destination < N .junctions → {tick : ℕ} →
       EarliestAt (netOf N) source departure destination tick → afterRoute answer arrival ≡ tick
@@ -103,14 +106,10 @@ module _ (N : Network) (kept : Accepted N) (source departure destination : ℕ) 
       absurd (let z : _≡_ {A = ℕ} 0 1 = cc in omega arith)
   rule-refusal (suc (suc (suc (suc (suc k))))) h before e r = absurd (omega arith)
 
-  network-kept : AllKept (networkRules N)
-  unfolding networkCheck
-  network-kept = replies-kept (networkRules N) tt tt (accepts-when-kept N .1 kept)
-
   route-refusal : (number : ℕ) → answer ≡ refused number → HostRefusal number
   unfolding routeAnswer
   route-refusal number e =
-      let at = refused-exactly-when ℕ rules _ number .0 (sym (kept-before (networkRules N) rules _ network-kept) ∙ e) in
+      let at = refused-exactly-when ℕ rules _ number .0 (sym (kept-before (closedNetworkRules N) rules _ (open-kept N none kept)) ∙ e) in
       rule-refusal (at .0) (at .1) (at .2) (at .4) e
 
 -- ---- The host's answer
@@ -127,13 +126,14 @@ module _ (text : List ℕ) (source departure destination : ℕ) where
 pub host-refuses-only : HostRefusesOnly
 host-refuses-only text bytes source departure destination number e = go (loads text bytes)
   where
-    routed : (N : Network) → Accepted N → (outcome : Outcome ℕ) → routeAnswer N source departure destination hostList ≡ outcome →
+    routed : (N : Network) → N .closures ≡ [] → Accepted N → (outcome : Outcome ℕ) → routeAnswer N source departure destination hostList ≡ outcome →
         afterRoute outcome (label N source departure destination) ≡ refusalBase + number → HostRefusal number
-    routed N kept (refused n) is e = let same : n ≡ number = omega arith in route-refusal N kept source departure destination number (is ∙ rw same)
-    routed N kept (replied count) is e = absurd (omega (arith, label-below N kept source departure destination (answered-routable N kept source departure destination count is)))
+    routed N none kept (refused n) is e = let same : n ≡ number = omega arith in route-refusal N none kept source departure destination number (is ∙ rw same)
+    routed N none kept (replied count) is e =
+        absurd (omega (arith, label-below N none kept source departure destination (answered-routable N none kept source departure destination count is)))
 
     go : TownOrFault text → HostRefusal number
-    go (inl found) = routed (networkOf (found .0)) (found .1 .1 .kept .network-accepted) _ refl (sym (described-answers text source departure destination (found .1)) ∙ e)
+    go (inl found) = routed (networkOf (found .0)) refl (found .1 .1 .kept .network-accepted) _ refl (sym (described-answers text source departure destination (found .1)) ∙ e)
     go (inr fault) =
         let answer = fault-answers text source departure destination (fault .2) in
         HostRefusal.text number (omega (arith, answer, e, fault .3 .0)) (omega (arith, answer, e, fault .3 .1))
@@ -146,14 +146,14 @@ host-answers-earliest text bytes source departure destination tick = (forward, b
     routed described (refused number) is e below = absurd (omega arith)
     routed {T} described (replied count) is e below =
         let kept = described .1 .kept .network-accepted in
-        let r = answered-routable (networkOf T) kept source departure destination count is in
+        let r = answered-routable (networkOf T) refl kept source departure destination count is in
         record {
           town = T;
           described = described;
           source-below = r .taken .source-below;
           departure-below = r .taken .departure-below;
           destination-below = r .destination-below;
-          earliest = rw e at (label-earliest (networkOf T) kept source departure destination r);
+          earliest = rw e at (label-earliest (networkOf T) refl kept source departure destination r);
         }
 
     forward : (hostAnswer text source departure destination ≡ tick) × (tick < refusalBase) → Answers text source departure destination tick
@@ -168,5 +168,5 @@ host-answers-earliest text bytes source departure destination tick = (forward, b
         let N = networkOf (a .town) in
         let kept = a .described .1 .kept .network-accepted in
         let early : departure ≤ last = omega (arith, a .departure-below) in
-        let is-tick = earliest-answered N kept source departure destination (a .source-below) (a .departure-below) (a .destination-below) (a .earliest) in
+        let is-tick = earliest-answered N refl kept source departure destination (a .source-below) (a .departure-below) (a .destination-below) (a .earliest) in
         (described-answers text source departure destination (a .described) ∙ is-tick, omega (arith, arrives-by-last early (a .earliest .attained)))

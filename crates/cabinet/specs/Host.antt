@@ -50,7 +50,7 @@ pub data HostRefusal : ℕ → Type 0 where
   unreached : HostRefusal 13
 
 -- Of a text of bytes the host question ends in no other refusal: its tables and its list are never too short (28, 14), and no town's network is
--- refused (1 to 8, 32).
+-- refused (1 to 8, 32), nor its empty list of closures (36, 37).
 abbrev pub HostRefusesOnly : Type 0
 HostRefusesOnly = (text : List ℕ) → Bytes text → (source departure destination number : ℕ) →
     hostAnswer text source departure destination ≡ refusalBase + number → HostRefusal number

@@ -66,6 +66,7 @@ fn route_in_tables(
 {
     let speed_count = arcs * intervals;
     let mut list = [0u16; MAX_JUNCTIONS];
+    let no_closures = [[0u32; 3]; 0];
     route(
         junctions,
         &fences[..intervals],
@@ -74,6 +75,7 @@ fn route_in_tables(
         &lengths[..arcs],
         &holds[..arcs],
         &speeds[..speed_count],
+        &no_closures,
         source,
         Tick { number: departure },
         destination,

@@ -2,7 +2,7 @@
 use Prim.Native.Nat.{ℕ, _+_, _<_, _≤_}
 use mathlib.Core.Path.{_≡_, refl}
 use mathlib.Core.Bool.{Bool, true, false}
-use mathlib.Core.List.{List, [], _∷_}
+use mathlib.Core.List.{List, [], _∷_, map}
 use native.Mathlib.Numerals.{add-one}
 use lib.ListN.{length, getD, drop, drop-of-length-le}
 use lib.Seq.{drop-cons}
@@ -11,18 +11,24 @@ use borrow.Author.Tests.{lt-ltb, le-ltb, ne-eqb}
 use Rattle.model.specs.Ticks.{day}
 use Rattle.model.specs.Rules.{every, riseFrom, fencesKeep}
 
-module _ (test : ℕ → Bool) (xs : List ℕ) (i : ℕ) (so-far : every test (drop i xs) ≡ every test xs) where
-  pub every-fails : i < length xs → test (getD xs i 0) ≡ false → false ≡ every test xs
+module _ {A : Type 0} (d : A) (test : A → Bool) (xs : List A) (i : ℕ) (so-far : every test (drop i xs) ≡ every test xs) where
+  pub every-fails : i < length xs → test (getD xs i d) ≡ false → false ≡ every test xs
   unfolding every
-  every-fails h e = rw (drop-cons xs i 0 h, every, e) at so-far
+  every-fails h e = rw (drop-cons xs i d h, every, e) at so-far
 
-  pub every-goes-on : i < length xs → test (getD xs i 0) ≡ true → every test (drop (i + 1) xs) ≡ every test xs
+  pub every-goes-on : i < length xs → test (getD xs i d) ≡ true → every test (drop (i + 1) xs) ≡ every test xs
   unfolding every
-  every-goes-on h e = rw add-one (rw (drop-cons xs i 0 h, every, e) at so-far)
+  every-goes-on h e = rw add-one (rw (drop-cons xs i d h, every, e) at so-far)
 
   pub every-ends : length xs ≤ i → true ≡ every test xs
   unfolding every
   every-ends h = rw (drop-of-length-le xs h) at so-far
+
+-- What a test says of every image.
+pub every-image : {A B : Type 0} (test : B → Bool) (f : A → B) (xs : List A) → every (λ x. test (f x)) xs ≡ every test (map f xs)
+unfolding every
+every-image test f [] = refl
+every-image test f (x ∷ xs) = rw (every-image test f xs)
 
 -- The fences: the first of them, and then from one on with the one before it.
 pub none-keep : (fences : List ℕ) → length fences ≡ 0 → true ≡ fencesKeep fences

@@ -1,3 +1,4 @@
+pub mod ClosedNetwork
 pub mod Highest
 pub mod NetworkCheck
 pub mod Question

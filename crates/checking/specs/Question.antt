@@ -1,13 +1,14 @@
 -- "1 to 8; 9, source not below the junction count; 10, departure 864,000 or above": what Labels and Route ask first. By document 02, order 5, 32
--- stands directly after 8, with the network's own.
+-- stands directly after 8, with the network's own; by order 7, 36 and 37 stand after these and before 9.
 use Prim.Native.Nat.{ℕ, _<_}
 use mathlib.Core.Bool.{not}
 use mathlib.Core.List.{List, [], _∷_, _++_}
 use lib.Dec.{ltb}
 use Rattle.model.specs.Ticks.{day}
-use Rattle.model.specs.Network.{Network, Accepted}
-use Rattle.model.specs.NetworkRules.{networkRules}
+use Rattle.model.specs.Network.{Network, Accepted, arcs}
+use Rattle.model.specs.Closures.{ClosuresKept}
 use Rattle.model.specs.Rules.{Outcome, Rule, _if_, firstBroken}
+use Rattle.checking.specs.ClosedNetwork.{closedNetworkRules}
 
 abbrev pub sourceRules : Network → ℕ → List Rule
 sourceRules N source = (9 if not (ltb source (N .junctions))) ∷ []
@@ -15,12 +16,12 @@ sourceRules N source = (9 if not (ltb source (N .junctions))) ∷ []
 abbrev pub departureRules : ℕ → List Rule
 departureRules departure = (10 if not (ltb departure day)) ∷ []
 
--- The rules on where and when a walk starts, after those of the network.
+-- The rules on where and when a walk starts, after those of the network with its closures.
 abbrev pub startRules : Network → ℕ → ℕ → List Rule
 startRules N source departure = sourceRules N source ++ departureRules departure
 
 abbrev pub questionRules : Network → ℕ → ℕ → List Rule
-questionRules N source departure = networkRules N ++ startRules N source departure
+questionRules N source departure = closedNetworkRules N ++ startRules N source departure
 
 unfoldable pub questionCheck : Network → ℕ → ℕ → Outcome (Unit {0})
 questionCheck N source departure = firstBroken (questionRules N source departure) tt
@@ -28,5 +29,6 @@ questionCheck N source departure = firstBroken (questionRules N source departure
 -- The rules in plain words: the question is taken.
 pub record Taken (N : Network) (source departure : ℕ) : Type 0 where
   pub accepted : Accepted N
+  pub closures-kept : ClosuresKept (arcs N) (N .closures)
   pub source-below : source < N .junctions
   pub departure-below : departure < day

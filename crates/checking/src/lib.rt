@@ -1,5 +1,6 @@
-// The tests of the rules, whether tables are a network, and whether a question of it is taken: what every operation asks first.
+// The tests of the rules, whether tables are a network, whether its closures are taken, and whether a question of it is: what every operation asks first.
 mod check;
+pub mod closure;
 pub mod highest;
 pub mod network;
 pub mod question;

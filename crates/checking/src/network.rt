@@ -1,5 +1,6 @@
 // Network check: whether the tables describe a network.
 ghost use mathlib.Core.Path.{_≡_};
+ghost use mathlib.Core.List.{[]};
 ghost use Rattle.model.specs.NetworkRules.{networkCheck};
 ghost use Rattle.model.specs.Lent.{lentNetwork};
 ghost use Rattle.checking.specs.NetworkCheck.{outcomeOf};
@@ -29,7 +30,7 @@ pub fn network_check(
     holds: &[u16],
     speeds: &[u8],
 ) -> NetworkCheck
-    ensures { λ r. ⌜ outcomeOf r ≡ networkCheck (lentNetwork junctions fences tails heads lengths holds speeds) ⌝ }
+    ensures { λ r. ⌜ outcomeOf r ≡ networkCheck (lentNetwork junctions fences tails heads lengths holds speeds []) ⌝ }
 {
     if !junction_count_keeps(junctions) {
         return NetworkCheck::Refused(Refusal::JunctionCount);

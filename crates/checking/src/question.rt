@@ -1,10 +1,10 @@
-// The rules that Labels and Route ask first: the network's own, and those on the source and the departure.
+// The rules that Labels and Route ask first: the network's own and its closures', and those on the source and the departure.
 ghost use mathlib.Core.Path.{_≡_};
-ghost use Rattle.model.specs.Lent.{lentNetwork};
+ghost use Rattle.model.specs.Lent.{lentNetwork, lentClosures};
 ghost use Rattle.checking.specs.NetworkCheck.{outcomeOf};
 ghost use Rattle.checking.specs.Question.{questionCheck};
+use crate::closure::closed_network_check;
 use crate::network::NetworkCheck;
-use crate::network::network_check;
 use model::tick::Tick;
 use refusals::refusal::Refusal;
 
@@ -16,12 +16,13 @@ pub fn question_check(
     lengths: &[u32],
     holds: &[u16],
     speeds: &[u8],
+    closures: &[[u32; 3]],
     source: u32,
     tick: u32,
 ) -> NetworkCheck
-    ensures { λ r. ⌜ outcomeOf r ≡ questionCheck (lentNetwork junctions fences tails heads lengths holds speeds) source tick ⌝ }
+    ensures { λ r. ⌜ outcomeOf r ≡ questionCheck (lentNetwork junctions fences tails heads lengths holds speeds (lentClosures closures)) source tick ⌝ }
 {
-    if let NetworkCheck::Refused(refusal) = network_check(
+    if let NetworkCheck::Refused(refusal) = closed_network_check(
         junctions,
         fences,
         tails,
@@ -29,6 +30,7 @@ pub fn question_check(
         lengths,
         holds,
         speeds,
+        closures,
     ) {
         return NetworkCheck::Refused(refusal);
     }

@@ -3,6 +3,8 @@ pub mod KeptIntervals
 pub mod Labelable
 pub mod Linking
 pub mod Links
+pub mod Marks
+pub mod NoneDriven
 pub mod Offered
 pub mod Queue
 pub mod Rounds

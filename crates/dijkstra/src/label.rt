@@ -4,9 +4,10 @@ ghost use lib.ListN.{length, replicate};
 ghost use Rattle.model.specs.Ticks.{never};
 ghost use Rattle.model.specs.Labels.{noArc, labelsOf, predecessorsOf};
 ghost use Rattle.model.specs.Network.{netOf};
-ghost use Rattle.model.specs.Lent.{lentNetwork, networkIn};
+ghost use Rattle.model.specs.Lent.{lentNetwork, lentClosures, networkIn, closuresIn};
 ghost use Rattle.dijkstra.specs.Labelable.{Labelable, LabelsLeft, PredecessorsLeft};
 ghost use Rattle.index_bounds.specs.Fitting.{Fits};
+use crate::closed::mark_closed;
 use crate::link::link_arcs;
 use crate::settle::settle;
 use driving::interval::interval_of;
@@ -44,22 +45,27 @@ fn label_all(
     lengths: &[u32],
     holds: &[u16],
     speeds: &[u8],
+    closures: &[[u32; 3]],
     source: usize,
     departure: u32,
     labels: &mut [u32],
     predecessors: &mut [u16],
 )
-    requires { ⌜ Fits (networkIn junctions fences tails heads lengths holds speeds) source departure (length (now labels)) (length (now predecessors)) ⌝ }
-    ensures labels { λ _. ⌜ (Labelable (lentNetwork junctions fences tails heads lengths holds speeds) source departure (now (labels .entry)) (now (predecessors .entry)) →
-        now (labels .exit) ≡ labelsOf (netOf (lentNetwork junctions fences tails heads lengths holds speeds)) source departure) ⌝ }
-    ensures predecessors { λ _. ⌜ (Labelable (lentNetwork junctions fences tails heads lengths holds speeds) source departure (now (labels .entry)) (now (predecessors .entry)) →
-        now (predecessors .exit) ≡ predecessorsOf (netOf (lentNetwork junctions fences tails heads lengths holds speeds)) source departure) ⌝ }
+    requires { ⌜ Fits (networkIn junctions fences tails heads lengths holds speeds (closuresIn closures)) source departure (length (now labels)) (length (now predecessors)) ⌝ }
+    ensures labels { λ _. ⌜ (Labelable (lentNetwork junctions fences tails heads lengths holds speeds (lentClosures closures))
+        source departure (now (labels .entry)) (now (predecessors .entry)) →
+        now (labels .exit) ≡ labelsOf (netOf (lentNetwork junctions fences tails heads lengths holds speeds (lentClosures closures))) source departure) ⌝ }
+    ensures predecessors { λ _. ⌜ (Labelable (lentNetwork junctions fences tails heads lengths holds speeds (lentClosures closures))
+        source departure (now (labels .entry)) (now (predecessors .entry)) →
+        now (predecessors .exit) ≡ predecessorsOf (netOf (lentNetwork junctions fences tails heads lengths holds speeds (lentClosures closures))) source departure) ⌝ }
 {
     clear(labels, predecessors);
     labels[source] = departure;
     let mut first = [NO_ARC; MAX_JUNCTIONS];
     let mut next = [NO_ARC; MAX_ARCS];
     link_arcs(tails, &mut first, &mut next);
+    let mut closed = [false; MAX_ARCS];
+    mark_closed(closures, &mut closed);
     let mut settled = [false; MAX_JUNCTIONS];
     let mut tree = [UNREACHED; NODES];
     enter(&mut tree, source, key_of(departure, source));
@@ -78,6 +84,8 @@ fn label_all(
             lengths,
             holds,
             speeds,
+            closures,
+            &closed,
             &first,
             &next,
             &mut settled,
@@ -99,14 +107,15 @@ pub fn label_from(
     lengths: &[u32],
     holds: &[u16],
     speeds: &[u8],
+    closures: &[[u32; 3]],
     source: usize,
     departure: u32,
     labels: &mut [u32],
     predecessors: &mut [u16],
 )
-    ensures labels { λ _. ⌜ LabelsLeft (lentNetwork junctions fences tails heads lengths holds speeds) source departure
+    ensures labels { λ _. ⌜ LabelsLeft (lentNetwork junctions fences tails heads lengths holds speeds (lentClosures closures)) source departure
         (now (labels .entry)) (now (predecessors .entry)) (now (labels .exit)) ⌝ }
-    ensures predecessors { λ _. ⌜ PredecessorsLeft (lentNetwork junctions fences tails heads lengths holds speeds) source departure
+    ensures predecessors { λ _. ⌜ PredecessorsLeft (lentNetwork junctions fences tails heads lengths holds speeds (lentClosures closures)) source departure
         (now (labels .entry)) (now (predecessors .entry)) (now (predecessors .exit)) ⌝ }
 {
     if !fits(
@@ -132,6 +141,7 @@ pub fn label_from(
         lengths,
         holds,
         speeds,
+        closures,
         source,
         departure,
         labels,

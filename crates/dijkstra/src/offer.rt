@@ -1,11 +1,16 @@
 // The offers of a settled junction's arcs: each arc's arrival may lower its head's label.
-ghost use Rattle.model.specs.Lent.{roadsIn, lentRoads};
-ghost use Rattle.dijkstra.specs.code.Offering.{tables, HasArc, Offerable, Leaves, ArcOffered, Drivable, AllOffered};
+ghost use Rattle.model.specs.Lent.{lentRoads, lentClosures, roadsIn, closuresIn};
+ghost use Rattle.dijkstra.specs.code.Marks.{Marked};
+ghost use Rattle.dijkstra.specs.code.Offering.{tables, HasArc, ArrivesOn, Offerable, Leaves, ArcOffered, Drivable, AllOffered};
+ghost use Rattle.driving.specs.InPlan.{InPlan};
+ghost use Rattle.model.specs.Ticks.{arrivedAt};
+use driving::closed::drive_closed_with_hold;
 use driving::hold::drive_with_hold;
 use model::label::NO_ARC;
 use model::limit::MAX_ARCS;
 use model::limit::MAX_JUNCTIONS;
 use model::tick::Arrival;
+use model::tick::Tick;
 use tournament::tree::LEAVES;
 use tournament::tree::NODES;
 use tournament::tree::enter;
@@ -42,6 +47,45 @@ fn offer(
     }
 }
 
+// Drives an arc from a tick on: with the list at hand where a closure names it, and else by its plan alone.
+fn drive_arc(
+    arc: usize,
+    tick: u32,
+    interval: usize,
+    fences: &[u32],
+    lengths: &[u32],
+    holds: &[u16],
+    speeds: &[u8],
+    closures: &[[u32; 3]],
+    closed: &[bool; MAX_ARCS],
+) -> Arrival
+    requires { ⌜ HasArc (roadsIn fences lengths holds speeds (closuresIn closures)) arc ⌝ }
+    requires { ⌜ Marked (closuresIn closures) (now closed) ⌝ }
+    ensures { λ r. ⌜ ArrivesOn (lentRoads fences lengths holds speeds (lentClosures closures)) arc tick interval (arrivedAt r) ⌝ }
+    ensures { λ r. ⌜ InPlan (now (fences .entry)) r ⌝ }
+{
+    let from = arc * fences.len();
+    let to = from + fences.len();
+    let metres = lengths[arc];
+    let hold = holds[arc] as u32;
+    // This test is all that closures cost where there are none.
+    if closures.len() != 0 {
+        if closed[arc] {
+            return drive_closed_with_hold(
+                tick,
+                interval,
+                metres,
+                hold,
+                fences,
+                &speeds[from..to],
+                arc as u32,
+                closures,
+            );
+        }
+    }
+    drive_with_hold(tick, interval, metres, hold, fences, &speeds[from..to])
+}
+
 // Drives an arc from a tick on, and offers its arrival.
 fn offer_arc(
     a: u16,
@@ -52,27 +96,35 @@ fn offer_arc(
     lengths: &[u32],
     holds: &[u16],
     speeds: &[u8],
+    closures: &[[u32; 3]],
+    closed: &[bool; MAX_ARCS],
     labels: &mut [u32],
     predecessors: &mut [u16],
     intervals: &mut [u8; MAX_JUNCTIONS],
     tree: &mut [u32; NODES],
 )
-    requires { ⌜ HasArc (roadsIn fences lengths holds speeds) a ⌝ }
+    requires { ⌜ HasArc (roadsIn fences lengths holds speeds (closuresIn closures)) a ⌝ }
     requires { ⌜ Offerable head (tables (now labels) (now predecessors) (now intervals) (now tree)) ⌝ }
-    ensures { λ _. ⌜ ArcOffered (lentRoads fences lengths holds speeds) a head tick interval
+    requires { ⌜ Marked (closuresIn closures) (now closed) ⌝ }
+    ensures { λ _. ⌜ ArcOffered (lentRoads fences lengths holds speeds (lentClosures closures)) a head tick interval
         (tables (now (labels .entry)) (now (predecessors .entry)) (now (intervals .entry)) (now (tree .entry)))
         (tables (now (labels .exit)) (now (predecessors .exit)) (now (intervals .exit)) (now (tree .exit))) ⌝ }
 {
-    let arc = a as usize;
-    let from = arc * fences.len();
-    let to = from + fences.len();
     let leaves_in = interval as usize;
-    let metres = lengths[arc];
-    let hold = holds[arc] as u32;
     if let Arrival::At {
         tick: arrival,
         interval: arrives_in,
-    } = drive_with_hold(tick, leaves_in, metres, hold, fences, &speeds[from..to]) {
+    } = drive_arc(
+        a as usize,
+        tick,
+        leaves_in,
+        fences,
+        lengths,
+        holds,
+        speeds,
+        closures,
+        closed,
+    ) {
         // A byte holds every interval of a plan.
         let noted = arrives_in as u8;
         offer(
@@ -98,6 +150,8 @@ pub(crate) fn offer_arcs(
     lengths: &[u32],
     holds: &[u16],
     speeds: &[u8],
+    closures: &[[u32; 3]],
+    closed: &[bool; MAX_ARCS],
     next: &[u16; MAX_ARCS],
     settled: &[bool; MAX_JUNCTIONS],
     labels: &mut [u32],
@@ -105,12 +159,20 @@ pub(crate) fn offer_arcs(
     intervals: &mut [u8; MAX_JUNCTIONS],
     tree: &mut [u32; NODES],
 )
-    requires { ⌜ Drivable (roadsIn fences lengths holds speeds) (now heads) (now next) first
+    requires { ⌜ Drivable (roadsIn fences lengths holds speeds (closuresIn closures)) (now heads) (now next) first
         (tables (now labels) (now predecessors) (now intervals) (now tree)) ⌝ }
-    ensures { λ _. ⌜ AllOffered (lentRoads fences lengths holds speeds) (now (heads .entry)) (now (next .entry)) (now (settled .entry)) tick interval first
+    requires { ⌜ Marked (closuresIn closures) (now closed) ⌝ }
+    ensures { λ _. ⌜ AllOffered (lentRoads fences lengths holds speeds (lentClosures closures)) (now (heads .entry)) (now (next .entry)) (now (settled .entry)) tick interval first
         (tables (now (labels .entry)) (now (predecessors .entry)) (now (intervals .entry)) (now (tree .entry)))
         (tables (now (labels .exit)) (now (predecessors .exit)) (now (intervals .exit)) (now (tree .exit))) ⌝ }
 {
+    // In no interval of the plan, and from the last tick on, no arc is driven: asked once for all of them.
+    if fences.len() <= interval as usize {
+        return;
+    }
+    if Tick::LAST <= tick {
+        return;
+    }
     let mut a = first;
     while a != NO_ARC {
         let arc = a as usize;
@@ -127,6 +189,8 @@ pub(crate) fn offer_arcs(
                 lengths,
                 holds,
                 speeds,
+                closures,
+                closed,
                 labels,
                 predecessors,
                 intervals,

@@ -1,5 +1,6 @@
 // A round of the labelling.
-ghost use Rattle.model.specs.Lent.{roadsIn, lentRoads};
+ghost use Rattle.model.specs.Lent.{lentRoads, lentClosures, roadsIn, closuresIn};
+ghost use Rattle.dijkstra.specs.code.Marks.{Marked};
 ghost use Rattle.dijkstra.specs.code.Offering.{tables};
 ghost use Rattle.dijkstra.specs.code.Rounds.{Settleable, Settles};
 use crate::offer::offer_arcs;
@@ -17,6 +18,8 @@ pub(crate) fn settle(
     lengths: &[u32],
     holds: &[u16],
     speeds: &[u8],
+    closures: &[[u32; 3]],
+    closed: &[bool; MAX_ARCS],
     first: &[u16; MAX_JUNCTIONS],
     next: &[u16; MAX_ARCS],
     settled: &mut [bool; MAX_JUNCTIONS],
@@ -25,9 +28,10 @@ pub(crate) fn settle(
     intervals: &mut [u8; MAX_JUNCTIONS],
     tree: &mut [u32; NODES],
 )
-    requires { ⌜ Settleable (roadsIn fences lengths holds speeds) (now heads) (now first) (now next) junction
+    requires { ⌜ Settleable (roadsIn fences lengths holds speeds (closuresIn closures)) (now heads) (now first) (now next) junction
         (tables (now labels) (now predecessors) (now intervals) (now tree)) ⌝ }
-    ensures { λ _. ⌜ Settles (lentRoads fences lengths holds speeds) (now (heads .entry)) (now (first .entry)) (now (next .entry)) junction
+    requires { ⌜ Marked (closuresIn closures) (now closed) ⌝ }
+    ensures { λ _. ⌜ Settles (lentRoads fences lengths holds speeds (lentClosures closures)) (now (heads .entry)) (now (first .entry)) (now (next .entry)) junction
         (now (settled .entry)) (now (settled .exit))
         (tables (now (labels .entry)) (now (predecessors .entry)) (now (intervals .entry)) (now (tree .entry)))
         (tables (now (labels .exit)) (now (predecessors .exit)) (now (intervals .exit)) (now (tree .exit))) ⌝ }
@@ -43,6 +47,8 @@ pub(crate) fn settle(
         lengths,
         holds,
         speeds,
+        closures,
+        closed,
         next,
         settled,
         labels,

@@ -54,7 +54,7 @@ day-less intervals midnight days k inside is-midnight more =
 
 module _ {departure interval metres : ℕ} {fences speeds : List ℕ} where
   -- the departure's interval is that of its time of day
-  in-interval-of : ArcKept departure interval metres fences speeds → suc interval ≡ passed fences (timeOfDay departure)
+  pub in-interval-of : ArcKept departure interval metres fences speeds → suc interval ≡ passed fences (timeOfDay departure)
   in-interval-of kept = ap suc (kept .in-interval) ∙ counted-at-tick kept departure
 
   pub kept-inside : ArcKept departure interval metres fences speeds → interval < min (length fences) (length speeds)

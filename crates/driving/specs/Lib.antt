@@ -1,3 +1,4 @@
 pub mod ArcKept
+pub mod code
 pub mod InPlan
 pub mod Tries

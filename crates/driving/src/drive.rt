@@ -17,7 +17,7 @@ use model::tick::Tick;
 use std::num::wrapping_add_u32;
 
 // The intervals that have both a fence and a speed.
-fn intervals_of(fences: &[u32], speeds: &[u8]) -> usize
+pub(crate) fn intervals_of(fences: &[u32], speeds: &[u8]) -> usize
     ensures { λ r. ⌜ r ≡ min (length (now (fences .entry))) (length (now (speeds .entry))) ⌝ }
 {
     if fences.len() < speeds.len() {
@@ -28,7 +28,7 @@ fn intervals_of(fences: &[u32], speeds: &[u8]) -> usize
 }
 
 // The spans that an interval covers from a time of day on: none where it ends no later.
-fn covered_until(end: u32, time: u32, speed: u8) -> u64
+pub(crate) fn covered_until(end: u32, time: u32, speed: u8) -> u64
     ensures { λ r. ⌜ r ≡ (end - time) * speed ⌝ }
 {
     if time < end {
@@ -39,7 +39,7 @@ fn covered_until(end: u32, time: u32, speed: u8) -> u64
 }
 
 // The ticks that cover the spans, rounded up; none where there are no spans or no speed.
-fn ticks_for(spans: u64, speed: u8) -> u64
+pub(crate) fn ticks_for(spans: u64, speed: u8) -> u64
     requires { ⌜ spans ≤ 2 ^ 48 ⌝ }
     ensures { λ r. ⌜ r ≡ ticksFor spans speed ⌝ }
 {

@@ -1,9 +1,9 @@
 // The hold at an arc's stop line, which is waited out after the arrival.
 ghost use mathlib.Core.Path.{_≡_};
-ghost use Prim.Native.Nat.{_+_, _≤_, _<_};
+ghost use Prim.Native.Nat.{ℕ, _+_, _≤_, _<_};
 ghost use lib.ListN.{length};
 ghost use Rattle.model.specs.Ticks.{last, arrivedAt};
-ghost use Rattle.model.specs.Flow.{spansOf};
+ghost use Rattle.model.specs.Flow.{spansOf, arrival};
 ghost use Rattle.model.specs.Holds.{arrivalWithHold};
 ghost use Rattle.model.specs.Intervals.{FencesKept, intervalOf, speedAt, tickAndInterval?};
 ghost use Rattle.driving.specs.ArcKept.{ArcKept};
@@ -52,6 +52,20 @@ fn wait_out(tick: u32, interval: usize, hold: u32, fences: &[u32]) -> Arrival
     }
 }
 
+// What a hold makes of what driving an arc gave: an arrival is waited out, and none stays none.
+pub(crate) fn with_hold(driven: Arrival, hold: u32, fences: &[u32]) -> Arrival
+    requires { ⌜ InPlan (now fences) driven ⌝ }
+    ensures { λ r. ⌜ (FencesKept (now (fences .entry)) → (v : ℕ → ℕ) (spans s : ℕ) →
+        arrivedAt driven ≡ tickAndInterval? (now (fences .entry)) (arrival v spans s) →
+        arrivedAt r ≡ tickAndInterval? (now (fences .entry)) (arrivalWithHold v spans hold s)) ⌝ }
+    ensures { λ r. ⌜ InPlan (now (fences .entry)) r ⌝ }
+{
+    match driven {
+        Arrival::At { tick, interval } => wait_out(tick.number, interval, hold, fences),
+        Arrival::Never => Arrival::Never,
+    }
+}
+
 // Drives an arc and waits out its hold: the arrival is the old one plus the hold. Of an arc that breaks the rules it says as little as `drive`.
 pub fn drive_with_hold(
     departure: u32,
@@ -65,11 +79,9 @@ pub fn drive_with_hold(
         arrivedAt r ≡ tickAndInterval? (now (fences .entry)) (arrivalWithHold (speedAt (now (fences .entry)) (now (speeds .entry))) (spansOf metres) hold departure)) ⌝ }
     ensures { λ r. ⌜ InPlan (now (fences .entry)) r ⌝ }
 {
-    match drive(departure, interval, metres, fences, speeds) {
-        Arrival::At {
-            tick,
-            interval: arrives_in,
-        } => wait_out(tick.number, arrives_in, hold, fences),
-        Arrival::Never => Arrival::Never,
-    }
+    with_hold(
+        drive(departure, interval, metres, fences, speeds),
+        hold,
+        fences,
+    )
 }

@@ -1,8 +1,10 @@
 // Whether all that a labelling is lent fits together, so that its indices lie inside.
 ghost use mathlib.Core.Path.{_≡_};
 ghost use mathlib.Core.Bool.{true};
+ghost use mathlib.Core.List.{List};
 ghost use mathlib.Core.Logic.{_↔_};
 ghost use Rattle.model.specs.Lent.{lentNetwork};
+ghost use Rattle.model.specs.declared.closure.Closure.{Closure};
 ghost use Rattle.index_bounds.specs.Fitting.{TablesFit, Fits};
 use checking::highest::highest_u16;
 use model::limit::MAX_ARCS;
@@ -19,7 +21,7 @@ fn tables_fit(
     holds: &[u16],
     speeds: &[u8],
 ) -> bool
-    ensures { λ r. ⌜ (r ≡ true) ↔ TablesFit (lentNetwork junctions fences tails heads lengths holds speeds) ⌝ }
+    ensures { λ r. ⌜ ((closures : List Closure) → (r ≡ true) ↔ TablesFit (lentNetwork junctions fences tails heads lengths holds speeds closures)) ⌝ }
 {
     if MAX_JUNCTIONS < junctions {
         return false;
@@ -48,7 +50,8 @@ fn tables_fit(
     (highest_u16(heads) as usize) < junctions
 }
 
-// The buffers are told by their lengths.
+// The buffers are told by their lengths. Nothing is asked of closures: a record's arc is tested
+// before it is an index.
 pub fn fits(
     junctions: usize,
     fences: &[u32],
@@ -62,7 +65,8 @@ pub fn fits(
     label_count: usize,
     predecessor_count: usize,
 ) -> bool
-    ensures { λ r. ⌜ (r ≡ true) ↔ Fits (lentNetwork junctions fences tails heads lengths holds speeds) source departure «label_count» «predecessor_count» ⌝ }
+    ensures { λ r. ⌜ ((closures : List Closure) →
+        (r ≡ true) ↔ Fits (lentNetwork junctions fences tails heads lengths holds speeds closures) source departure «label_count» «predecessor_count») ⌝ }
 {
     if junctions <= source {
         return false;

@@ -11,11 +11,12 @@ use Rattle.model.specs.Network.{Network, netOf}
 use Rattle.model.specs.Labels.{labelsOf, predecessorsOf}
 use Rattle.model.specs.Rules.{AllKept, Outcome, refused, replied, Rule, firstBroken}
 use Rattle.model.proofs.Demands.{demand-2, only-tables-of-network}
+use Rattle.model.proofs.SameDrives.{closures-are-union}
 use Rattle.model.proofs.Rules.{kept-replies, replies-kept, refused-at, refused-before, kept-before, kept-append, both-true, true-both}
 use Rattle.checking.specs.Question.{questionRules, questionCheck}
 use Rattle.checking.proofs.QuestionRules.{kept-taken, taken-kept}
 use Rattle.dijkstra.specs.Labelable.{Labelable}
-use Rattle.labelling.specs.Labels.{bufferRules, labelsAnswer, labelsAfter, predecessorsAfter, LabelsRepliesWhenLabelable, Demand2OfCall}
+use Rattle.labelling.specs.Labels.{bufferRules, labelsAnswer, labelsAfter, predecessorsAfter, LabelsRepliesWhenLabelable, Demand2OfCall, SameClosedOfCall}
 
 module _ (N : Network) (source departure : ℕ) (labels predecessors : List ℕ) where
   abbrev answer : Outcome (Unit {0})
@@ -91,3 +92,8 @@ demand-2-of-call N source departure labels predecessors e =
     let t = answered N source departure labels predecessors e .taken in
     let tables = only-tables-of-network N (t .accepted) source departure (t .source-below) (t .departure-below) _ _ .1 (refl, refl) in
     rw e (demand-2 N (t .accepted) source departure (t .source-below) (t .departure-below), tables .0, tables .1)
+
+pub same-closed-of-call : SameClosedOfCall
+same-closed-of-call N closures alike source departure labels predecessors first second =
+    let (same-labels, same-predecessors, _) = closures-are-union N closures alike source departure in
+    (rw (first, second) same-labels, rw (first, second) same-predecessors)

@@ -1,6 +1,6 @@
 -- "Labels (network, source, departure, lent labels and predecessors). 1 to 8; 9, source not below the junction count; 10,
 -- departure 864,000 or above; 11, either lent buffer not exactly as long as the junction count. Otherwise both buffers hold
--- every junction's label and predecessor." By document 02, order 5, 32 stands after 8.
+-- every junction's label and predecessor." By document 02, order 5, 32 stands after 8, and by order 7, 36 and 37 after it.
 use Prim.Native.Nat.{ℕ}
 use mathlib.Core.Path.{_≡_}
 use mathlib.Core.Bool.{not, _&&_}
@@ -9,7 +9,10 @@ use mathlib.Core.Logic.{_↔_}
 use lib.Dec.{eqb}
 use lib.ListN.{length, getD}
 use Rattle.model.specs.Ticks.{never}
+use Rattle.model.specs.Closures.{Closed}
 use Rattle.model.specs.Network.{Network, netOf}
+use Rattle.model.specs.Routes.{closedBy}
+use Rattle.model.specs.declared.closure.Closure.{Closure}
 use Rattle.model.specs.Labels.{labelsOf, predecessorsOf, Certified, Lowest}
 use Rattle.model.specs.Walks.{Earliest}
 use Rattle.refusals.specs.Refusals.{numberOf}
@@ -51,3 +54,11 @@ Demand2OfCall = (N : Network) (source departure : ℕ) (labels predecessors : Li
     Earliest (netOf N) source departure (λ j. getD (labelsAfter N source departure labels predecessors) j never)
     × Certified (netOf N) source departure (labelsAfter N source departure labels predecessors) (predecessorsAfter N source departure labels predecessors)
     × Lowest (netOf N) source (labelsAfter N source departure labels predecessors) (predecessorsAfter N source departure labels predecessors)
+
+-- Of two calls that both reply, on networks whose lists of closures close the same ticks of the same arcs: they leave the same buffers.
+abbrev pub SameClosedOfCall : Type 0
+SameClosedOfCall = (N : Network) (closures : List Closure) → ((a t : ℕ) → Closed (N .closures) a t ↔ Closed closures a t) →
+    (source departure : ℕ) (labels predecessors : List ℕ) →
+    labelsAnswer N source departure labels predecessors ≡ replied tt → labelsAnswer (closedBy N closures) source departure labels predecessors ≡ replied tt →
+    (labelsAfter N source departure labels predecessors ≡ labelsAfter (closedBy N closures) source departure labels predecessors)
+    × (predecessorsAfter N source departure labels predecessors ≡ predecessorsAfter (closedBy N closures) source departure labels predecessors)

@@ -1,6 +1,6 @@
 // Labels: the earliest arrival at every junction, and the arc by which it is reached.
 ghost use mathlib.Core.Path.{_≡_};
-ghost use Rattle.model.specs.Lent.{lentNetwork};
+ghost use Rattle.model.specs.Lent.{lentNetwork, lentClosures};
 ghost use Rattle.labelling.specs.Labels.{outcomeOf, labelsAnswer, labelsAfter, predecessorsAfter};
 use checking::network::NetworkCheck;
 use checking::question::question_check;
@@ -21,17 +21,21 @@ pub fn labels(
     lengths: &[u32],
     holds: &[u16],
     speeds: &[u8],
+    closures: &[[u32; 3]],
     source: u32,
     departure: Tick,
     labels: &mut [u32],
     predecessors: &mut [u16],
 ) -> Labelled
     ensures answer { λ r. ⌜ outcomeOf r ≡
-        labelsAnswer (lentNetwork junctions fences tails heads lengths holds speeds) source (departure .number) (now (labels .entry)) (now (predecessors .entry)) ⌝ }
+        labelsAnswer (lentNetwork junctions fences tails heads lengths holds speeds (lentClosures closures))
+        source (departure .number) (now (labels .entry)) (now (predecessors .entry)) ⌝ }
     ensures labels { λ _. ⌜ now (labels .exit) ≡
-        labelsAfter (lentNetwork junctions fences tails heads lengths holds speeds) source (departure .number) (now (labels .entry)) (now (predecessors .entry)) ⌝ }
+        labelsAfter (lentNetwork junctions fences tails heads lengths holds speeds (lentClosures closures))
+        source (departure .number) (now (labels .entry)) (now (predecessors .entry)) ⌝ }
     ensures predecessors { λ _. ⌜ now (predecessors .exit) ≡
-        predecessorsAfter (lentNetwork junctions fences tails heads lengths holds speeds) source (departure .number) (now (labels .entry)) (now (predecessors .entry)) ⌝ }
+        predecessorsAfter (lentNetwork junctions fences tails heads lengths holds speeds (lentClosures closures))
+        source (departure .number) (now (labels .entry)) (now (predecessors .entry)) ⌝ }
 {
     let tick = departure.number;
     if let NetworkCheck::Refused(refusal) = question_check(
@@ -42,6 +46,7 @@ pub fn labels(
         lengths,
         holds,
         speeds,
+        closures,
         source,
         tick,
     ) {
@@ -61,6 +66,7 @@ pub fn labels(
         lengths,
         holds,
         speeds,
+        closures,
         source as usize,
         tick,
         labels,

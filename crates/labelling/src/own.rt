@@ -1,7 +1,7 @@
 // Labels into buffers of one's own, which have room for every network: the first entries of each are lent, one for each junction.
 ghost use mathlib.Core.Path.{_≡_};
 ghost use Prim.Native.Nat.{min};
-ghost use Rattle.model.specs.Lent.{lentNetwork};
+ghost use Rattle.model.specs.Lent.{lentNetwork, lentClosures};
 ghost use Rattle.labelling.specs.Labels.{outcomeOf};
 ghost use Rattle.labelling.specs.Within.{answerWithin, labelsWithin, predecessorsWithin};
 use crate::labels::Labelled;
@@ -22,17 +22,21 @@ pub fn labels_within(
     lengths: &[u32],
     holds: &[u16],
     speeds: &[u8],
+    closures: &[[u32; 3]],
     source: u32,
     departure: Tick,
     labels: &mut [u32],
     predecessors: &mut [u16],
 ) -> Labelled
     ensures answer { λ r. ⌜ outcomeOf r ≡
-        answerWithin (lentNetwork junctions fences tails heads lengths holds speeds) source (departure .number) (now (labels .entry)) (now (predecessors .entry)) ⌝ }
+        answerWithin (lentNetwork junctions fences tails heads lengths holds speeds (lentClosures closures))
+        source (departure .number) (now (labels .entry)) (now (predecessors .entry)) ⌝ }
     ensures labels { λ _. ⌜ now (labels .exit) ≡
-        labelsWithin (lentNetwork junctions fences tails heads lengths holds speeds) source (departure .number) (now (labels .entry)) (now (predecessors .entry)) ⌝ }
+        labelsWithin (lentNetwork junctions fences tails heads lengths holds speeds (lentClosures closures))
+        source (departure .number) (now (labels .entry)) (now (predecessors .entry)) ⌝ }
     ensures predecessors { λ _. ⌜ now (predecessors .exit) ≡
-        predecessorsWithin (lentNetwork junctions fences tails heads lengths holds speeds) source (departure .number) (now (labels .entry)) (now (predecessors .entry)) ⌝ }
+        predecessorsWithin (lentNetwork junctions fences tails heads lengths holds speeds (lentClosures closures))
+        source (departure .number) (now (labels .entry)) (now (predecessors .entry)) ⌝ }
 {
     let count = junctions as usize;
     let labelled = lesser(count, labels.len());
@@ -45,6 +49,7 @@ pub fn labels_within(
         lengths,
         holds,
         speeds,
+        closures,
         source,
         departure,
         &mut labels[..labelled],

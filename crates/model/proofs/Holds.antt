@@ -3,7 +3,7 @@
 use Prim.Native.Nat.{ℕ, _+_, _≤_}
 use mathlib.Core.Path.{_≡_, sym}
 use mathlib.Core.Logic.{_⊎_, inl, inr, ⊎-elim}
-use native.Mathlib.Nat.{add-zero, le-refl}
+use native.Mathlib.Nat.{add-zero, le-refl, le-of-eq, le-antisymm}
 use native.Mathlib.Omega.{arith}
 use borrow.Author.Tests.{le-leb}
 use Rattle.model.specs.Ticks.{last, never, byLast}
@@ -50,6 +50,13 @@ with-hold-is-monotone v w spans spans′ hold hold′ s s′ earlier shorter rel
 pub with-hold-non-passing : WithHoldNonPassing
 with-hold-non-passing v spans hold s t earlier =
     with-hold-is-monotone v v spans spans hold hold s t earlier (le-refl spans) (le-refl hold) (λ u. le-refl (v u))
+
+-- Two speeds that are equal at every tick arrive alike.
+pub same-arrival : (v w : ℕ → ℕ) (spans hold s : ℕ) → ((t : ℕ) → v t ≡ w t) → arrivalWithHold v spans hold s ≡ arrivalWithHold w spans hold s
+same-arrival v w spans hold s same =
+    le-antisymm
+    (with-hold-is-monotone v w spans spans hold hold s s (le-refl s) (le-refl spans) (le-refl hold) (λ t. le-of-eq (sym (same t))))
+    (with-hold-is-monotone w v spans spans hold hold s s (le-refl s) (le-refl spans) (le-refl hold) (λ t. le-of-eq (same t)))
 
 -- It too is a tick up to the last, or never.
 pub with-hold-by-last : (v : ℕ → ℕ) (spans hold s : ℕ) → (arrivalWithHold v spans hold s ≤ last) ⊎ (arrivalWithHold v spans hold s ≡ never)

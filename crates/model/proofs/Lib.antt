@@ -1,6 +1,7 @@
 pub mod Arrival
 pub mod ByLast
 pub mod Certificate
+pub mod Closures
 pub mod Containing
 pub mod Covered
 pub mod Demands
@@ -20,6 +21,7 @@ pub mod Products
 pub mod Repeating
 pub mod Routes
 pub mod Rules
+pub mod SameDrives
 pub mod Tests
 pub mod Trails
 pub mod Walks

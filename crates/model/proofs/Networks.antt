@@ -1,5 +1,5 @@
 -- An accepted network is a sound net, by the laws of the arrival; and one that improves on another is a better net: of every tick
--- its speed is no lower, since the tick lies in the same interval.
+-- its speed is no lower, since the tick lies in the same interval and is closed only where it was.
 use Prim.Native.Nat.{ℕ, _*_, _≤_, _<_}
 use mathlib.Core.Path.{_≡_, ap}
 use mathlib.Core.List.{List}
@@ -13,6 +13,7 @@ use Rattle.model.specs.Walks.{Sound}
 use Rattle.model.specs.Network.{Network, Accepted, arcs, intervals, Roads, roadsOf, speedsOf, speedOn, driveOf, netOf}
 use Rattle.model.specs.Demands.{Improves, NoTickSlower}
 use Rattle.model.proofs.Holds.{with-hold-is-later, with-hold-is-monotone, with-hold-non-passing, with-hold-by-last}
+use Rattle.model.proofs.Closures.{closed-no-faster}
 use Rattle.model.proofs.Improvement.{Better}
 
 -- An arc is driven by the last tick or never.
@@ -41,11 +42,13 @@ module _ (A B : Network) (improves : Improves A B) where
           let short : length (speedsOf A a) ≤ k = omega (arith, length-take (intervals A) (drop (a * intervals A) (A .speeds))) in
           omega (arith, List·getD-eq-default (speedsOf A a) 0 short)
 
+-- The plan's speed of a tick is no lower; nor is the speed with closures, since no further tick is closed.
 pub no-tick-slower : NoTickSlower
 unfolding speedOn speedAt
 no-tick-slower A B improves a t is-arc =
     let same : intervalOf (A .fences) t ≡ intervalOf (B .fences) t = ap (λ (fences : List ℕ). intervalOf fences t) (improves .same-fences) in
-    rw (← same) (speed-no-lower A B improves a (intervalOf (A .fences) t) is-arc)
+    closed-no-faster (A .closures) (B .closures) a t _ _ (improves .no-more-closed a t is-arc)
+    (rw (← same) (speed-no-lower A B improves a (intervalOf (A .fences) t) is-arc))
 
 module _ (A B : Network) (improves : Improves A B) where
   pub drive-no-later : (a s t : ℕ) → a < arcs A → s ≤ t → driveOf (roadsOf B) a s ≤ driveOf (roadsOf A) a t

@@ -1,5 +1,5 @@
--- The speeds repeat by the day, since a tick and the one a day later have the same time of day. So a vehicle that leaves a day later covers the
--- same in as many ticks, and arrives a day later.
+-- A plan's speeds repeat by the day, since a tick and the one a day later have the same time of day. So, where nothing is closed, a vehicle that
+-- leaves a day later covers the same in as many ticks, and arrives a day later.
 use Prim.Native.Nat.{ℕ, zero, suc, _+_, _-_}
 use mathlib.Core.Path.{_≡_, refl, sym, ap, subst, _∙_}
 use mathlib.Core.Logic.{⊎-elim}
@@ -10,10 +10,11 @@ use Rattle.model.specs.Ticks.{day, last, byLast}
 use Rattle.model.specs.Flow.{covered, arrival, IsArrival}
 use Rattle.model.specs.Holds.{arrivalWithHold}
 use Rattle.model.specs.Intervals.{passed, intervalOf, speedAt, SpeedsRepeat}
-use Rattle.model.specs.Network.{arcSpeeds, speedOn, driveOf, DrivesRepeat}
+use Rattle.model.specs.Network.{arcSpeeds, DrivesRepeat}
 use Rattle.model.proofs.Tests.{leb-cases}
 use Rattle.model.proofs.Arrival.{arrival-is, arrival-is-least}
 use Rattle.model.proofs.ByLast.{by-last-added}
+use Rattle.model.proofs.Closures.{no-closures}
 
 pub speeds-repeat : SpeedsRepeat
 unfolding speedAt intervalOf
@@ -49,7 +50,9 @@ either-first t m n =
     by-last-added (t + m) n ∙ ap byLast same ∙ sym (by-last-added (t + n) m)
 
 pub drives-repeat : DrivesRepeat
-unfolding driveOf arrivalWithHold speedOn
-drives-repeat R a t =
+unfolding arrivalWithHold
+drives-repeat R none a t =
     let hold = getD (R .holds) a 0 in
-    ap (λ (u : ℕ). byLast (u + hold)) (arrival-repeats (speedOn R a) (speeds-repeat (R .fences) (arcSpeeds R a)) _ t) ∙ either-first _ day hold
+    let as-was = no-closures R none a .1 in
+    rw (as-was t, as-was (t + day))
+    (ap (λ (u : ℕ). byLast (u + hold)) (arrival-repeats (speedAt (R .fences) (arcSpeeds R a)) (speeds-repeat (R .fences) (arcSpeeds R a)) _ t) ∙ either-first _ day hold)

@@ -7,6 +7,7 @@ use mathlib.Core.Logic.{_↔_}
 use lib.ListN.{getD}
 use Rattle.model.specs.Ticks.{day, never}
 use Rattle.model.specs.Network.{Network, Accepted, arcs, intervals, roadsOf, speedsOf, speedOn, netOf}
+use Rattle.model.specs.Closures.{Closed}
 use Rattle.model.specs.Walks.{Earliest}
 use Rattle.model.specs.Labels.{labelsOf, predecessorsOf, Certified, Lowest}
 
@@ -30,9 +31,11 @@ OnlyTablesOfNetwork = (N : Network) → Accepted N → (source departure : ℕ) 
 -- ---- When things get better
 
 -- The second network has all that the first has, and every change is for the better: more junctions and arcs, no arc longer, none
--- slower in any interval, no hold greater. The first network's junctions and arcs keep their numbers, and the second's further ones follow them.
+-- slower in any interval, no hold greater, no further tick closed. The first network's junctions and arcs keep their numbers, and the second's
+-- further ones follow them.
 -- Document 02, order 2: "The rules on earliest arrival and on improvement speak of the repeating speeds." Both go by `speedOn`: see `NoTickSlower`.
--- Order 5: "The improvement rule now also asks that no hold is greater in the second network."
+-- Order 5: "The improvement rule now also asks that no hold is greater in the second network." Order 7: "For the improvement rule, every tick
+-- closed in the second network on an arc of the first is closed on that arc in the first." It is asked of ticks: the lists may be quite different.
 pub record Improves (A B : Network) : Type 0 where
   pub same-fences : A .fences ≡ B .fences
   pub more-junctions : A .junctions ≤ B .junctions
@@ -42,6 +45,7 @@ pub record Improves (A B : Network) : Type 0 where
   pub no-longer : (a : ℕ) → a < arcs A → getD (B .lengths) a 0 ≤ getD (A .lengths) a 0
   pub no-greater-hold : (a : ℕ) → a < arcs A → getD (B .holds) a 0 ≤ getD (A .holds) a 0
   pub no-slower : (a k : ℕ) → a < arcs A → k < intervals A → getD (speedsOf A a) k 0 ≤ getD (speedsOf B a) k 0
+  pub no-more-closed : (a t : ℕ) → a < arcs A → Closed (B .closures) a t → Closed (A .closures) a t
 
 -- "A single claim about two whole networks with all its changes together" asks: both are accepted, the second improves on the first, and the
 -- vehicle leaves no later in the second.
@@ -51,6 +55,6 @@ pub record GetsBetter (A B : Network) (early late : ℕ) : Type 0 where
   pub improves : Improves A B
   pub leaves-no-later : early ≤ late
 
--- Improved in every interval, an arc is slower at no tick of any day.
+-- Improved in every interval, and closed at no further tick, an arc is slower at no tick of any day.
 abbrev pub NoTickSlower : Type 0
 NoTickSlower = (A B : Network) → Improves A B → (a t : ℕ) → a < arcs A → speedOn (roadsOf A) a t ≤ speedOn (roadsOf B) a t

@@ -1,3 +1,4 @@
+pub mod Closures
 pub mod Demands
 pub mod Flow
 pub mod Holds

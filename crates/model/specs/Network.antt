@@ -1,7 +1,7 @@
 -- A town's network as its tables, the plain statement of its rules, what decides the drive on its arcs, and the net that it is.
 use Prim.Native.Nat.{ℕ, _+_, _*_, _≤_, _<_}
 use mathlib.Core.Path.{_≡_}
-use mathlib.Core.List.{List}
+use mathlib.Core.List.{List, []}
 use lib.ListN.{length, getD, take, drop}
 use Rattle.model.specs.Ticks.{day, byLast}
 use Rattle.model.specs.Limits.{maxJunctions, maxArcs, maxIntervals, maxLength, maxSpeed, maxHold}
@@ -9,8 +9,11 @@ use Rattle.model.specs.Flow.{spansOf}
 use Rattle.model.specs.Holds.{arrivalWithHold}
 use Rattle.model.specs.Intervals.{FencesKept, speedAt}
 use Rattle.model.specs.Walks.{Net}
+use Rattle.model.specs.Closures.{withClosures}
+use Rattle.model.specs.declared.closure.Closure.{Closure}
 
--- Document 02, order 5: the hold is in "a further lent table in the network beside the lengths".
+-- Document 02, order 5: the hold is in "a further lent table in the network beside the lengths". Order 7: the closures are those that a question
+-- of it brings; no file has any.
 pub record Network : Type 0 where
   pub junctions : ℕ
   pub fences : List ℕ
@@ -19,10 +22,11 @@ pub record Network : Type 0 where
   pub lengths : List ℕ
   pub holds : List ℕ
   pub speeds : List ℕ
+  pub closures : List Closure
 
--- The network of a junction count and six tables.
-abbrev pub network : ℕ → List ℕ → List ℕ → List ℕ → List ℕ → List ℕ → List ℕ → Network
-network junctions fences tails heads lengths holds speeds = record {
+-- The network of a junction count, six tables and the closures.
+abbrev pub network : ℕ → List ℕ → List ℕ → List ℕ → List ℕ → List ℕ → List ℕ → List Closure → Network
+network junctions fences tails heads lengths holds speeds closures = record {
   junctions = junctions;
   fences = fences;
   tails = tails;
@@ -30,6 +34,7 @@ network junctions fences tails heads lengths holds speeds = record {
   lengths = lengths;
   holds = holds;
   speeds = speeds;
+  closures = closures;
 }
 
 -- "The arc count is the length of the tails."
@@ -67,12 +72,13 @@ pub record Roads : Type 0 where
   pub lengths : List ℕ
   pub holds : List ℕ
   pub speeds : List ℕ
+  pub closures : List Closure
 
-abbrev pub roads : List ℕ → List ℕ → List ℕ → List ℕ → Roads
-roads fences lengths holds speeds = record { fences = fences; lengths = lengths; holds = holds; speeds = speeds }
+abbrev pub roads : List ℕ → List ℕ → List ℕ → List ℕ → List Closure → Roads
+roads fences lengths holds speeds closures = record { fences = fences; lengths = lengths; holds = holds; speeds = speeds; closures = closures }
 
 abbrev pub roadsOf : Network → Roads
-roadsOf N = roads (N .fences) (N .lengths) (N .holds) (N .speeds)
+roadsOf N = roads (N .fences) (N .lengths) (N .holds) (N .speeds) (N .closures)
 
 -- "Each arc has one speed per interval": the speeds stand arc by arc.
 abbrev pub arcSpeeds : Roads → ℕ → List ℕ
@@ -81,9 +87,9 @@ arcSpeeds R a = take (length (R .fences)) (drop (a * length (R .fences)) (R .spe
 abbrev pub speedsOf : Network → ℕ → List ℕ
 speedsOf N a = arcSpeeds (roadsOf N) a
 
--- The speed of a tick on an arc.
+-- The speed of a tick on an arc: its plan's, and 0 while it is closed.
 unfoldable pub speedOn : Roads → ℕ → ℕ → ℕ
-speedOn R a t = speedAt (R .fences) (arcSpeeds R a) t
+speedOn R a = withClosures (R .closures) a (speedAt (R .fences) (arcSpeeds R a))
 
 -- The arrival on an arc that is left at a tick, with the arc's hold: the next arc is left after it.
 unfoldable pub driveOf : Roads → ℕ → ℕ → ℕ
@@ -102,6 +108,13 @@ netOf N = record {
 
 -- ---- What is proved of it
 
--- Who leaves an arc's tail a day later arrives a day later, if that is by the last tick, and else never.
+-- Without closures an arc has its plan's speeds alone, and everything is as it was before there were any.
+abbrev pub NoClosures : Type 0
+NoClosures = (R : Roads) → R .closures ≡ [] → (a : ℕ) →
+    ((t : ℕ) → speedOn R a t ≡ speedAt (R .fences) (arcSpeeds R a) t)
+    × ((t : ℕ) → driveOf R a t ≡ arrivalWithHold (speedAt (R .fences) (arcSpeeds R a)) (spansOf (getD (R .lengths) a 0)) (getD (R .holds) a 0) t)
+
+-- Without closures, which do not repeat at midnight: who leaves an arc's tail a day later arrives a day later, if that is by the last tick, and
+-- else never.
 abbrev pub DrivesRepeat : Type 0
-DrivesRepeat = (R : Roads) (a t : ℕ) → driveOf R a (t + day) ≡ byLast (driveOf R a t + day)
+DrivesRepeat = (R : Roads) → R .closures ≡ [] → (a t : ℕ) → driveOf R a (t + day) ≡ byLast (driveOf R a t + day)

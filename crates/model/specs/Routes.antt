@@ -3,13 +3,16 @@ use Prim.Native.Nat.{ℕ, zero, suc, _≤_, _<_}
 use mathlib.Core.Path.{_≡_}
 use mathlib.Core.Bool.{cond}
 use mathlib.Core.List.{List, [], _∷_, _++_, map, reverse}
+use mathlib.Core.Logic.{_↔_}
 use lib.Dec.{eqb}
 use lib.ListN.{length, getD}
 use Rattle.model.specs.Ticks.{last, day, never}
 use Rattle.model.specs.Walks.{Net, Sound, Arrives}
 use Rattle.model.specs.Labels.{noArc, labelsOf, predecessorsOf}
-use Rattle.model.specs.Network.{Network, Accepted, netOf}
+use Rattle.model.specs.Closures.{Closed}
+use Rattle.model.specs.Network.{Network, network, Accepted, netOf}
 use Rattle.model.specs.Demands.{label}
+use Rattle.model.specs.declared.closure.Closure.{Closure}
 
 -- The arcs found by following predecessors from a junction back to the source, the last arc first, and at most so many: none
 -- at the source; else the junction's predecessor, and then on from its tail.
@@ -44,6 +47,19 @@ AllDiffer xs = (i k : ℕ) → i < k → k < length xs → getD xs i 0 ≡ getD 
 -- Who drives a list of arcs goes a walk, so that nobody who does arrives before the label.
 abbrev pub DrivenIsWalk : Type 0
 DrivenIsWalk = (N : Net) (source departure : ℕ) (arcs : List ℕ) (j t : ℕ) → Driven N source departure arcs j t → Arrives N source departure j t
+
+-- ---- Other closures
+
+-- The network with another list of closures.
+abbrev pub closedBy : Network → List Closure → Network
+closedBy N closures = network (N .junctions) (N .fences) (N .tails) (N .heads) (N .lengths) (N .holds) (N .speeds) closures
+
+-- Closed is the union of the records' ticks: two lists that close the same ticks of the same arcs give the same labels, predecessors and routes.
+abbrev pub ClosuresAreUnion : Type 0
+ClosuresAreUnion = (N : Network) (closures : List Closure) → ((a t : ℕ) → Closed (N .closures) a t ↔ Closed closures a t) → (source departure : ℕ) →
+    (labelsOf (netOf N) source departure ≡ labelsOf (netOf (closedBy N closures)) source departure)
+    × (predecessorsOf (netOf N) source departure ≡ predecessorsOf (netOf (closedBy N closures)) source departure)
+    × ((j : ℕ) → routeOf (netOf N) source departure j ≡ routeOf (netOf (closedBy N closures)) source departure j)
 
 -- ---- For every junction that is reached
 

@@ -7,7 +7,8 @@ use Rattle.refusals.specs.declared.refusal.Refusal.the-variants.{Junctio
 use Rattle.refusals.specs.declared.refusal.Refusal.the-variants.{Source, Departure, BufferLength, Destination, Unreached, ArcListLength, DepartureAfterLast}
 use Rattle.refusals.specs.declared.refusal.Refusal.the-variants.{TextLength, NoLineFeed, LineLength, UnknownMark, MarkOutOfTurn}
 use Rattle.refusals.specs.declared.refusal.Refusal.the-variants.{FieldForm, FieldValue, LineMissing, TableTooShort}
-use Rattle.refusals.specs.declared.refusal.Refusal.the-variants.{FormAlready, HoldDropped, OutputLength, DepartureCount, SheetLength, DepartureInterval}
+use Rattle.refusals.specs.declared.refusal.Refusal.the-variants.{FormAlready, HoldDropped, OutputLength, ClosureCount, Closure}
+use Rattle.refusals.specs.declared.refusal.Refusal.the-variants.{DepartureCount, SheetLength, DepartureInterval}
 
 pub number-fits : (refusal : Refusal) → numberOf refusal < 100
 number-fits JunctionCount = omega arith
@@ -40,4 +41,6 @@ number-fits Hold = omega arith
 number-fits FormAlready = omega arith
 number-fits HoldDropped = omega arith
 number-fits OutputLength = omega arith
+number-fits ClosureCount = omega arith
+number-fits Closure = omega arith
 number-fits DepartureInterval = omega arith

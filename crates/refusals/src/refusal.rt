@@ -14,6 +14,9 @@ pub enum Refusal {
     Length,
     Speed,
     Hold,
+    // The closures'.
+    ClosureCount,
+    Closure,
     // The question's.
     Source,
     Departure,
@@ -82,6 +85,8 @@ impl Refusal {
             Refusal::FormAlready => 33,
             Refusal::HoldDropped => 34,
             Refusal::OutputLength => 35,
+            Refusal::ClosureCount => 36,
+            Refusal::Closure => 37,
             Refusal::DepartureInterval => 46,
         }
     }

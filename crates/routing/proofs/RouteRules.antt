@@ -81,17 +81,15 @@ demand-2-of-route-call N source departure destination arcs count e =
     (rw (e, a .1, take-append-seam (route N source departure destination arcs) (drop (length (route N source departure destination arcs)) arcs)) (d .0), omega (arith, d .1, a .1))
 
 pub room-for-every-route : RoomForEveryRoute
-room-for-every-route N source departure destination arcs accepted source-below departure-below destination-below reached room =
-    let d = demand-2-of-route N accepted source departure source-below departure-below destination destination-below reached in
-    replies N source departure destination arcs
-    (taken-kept N source departure (record { accepted = accepted; source-below = source-below; departure-below = departure-below }))
-    destination-below reached (omega (arith, d .1, accepted .junctions-fit))
+room-for-every-route N source departure destination arcs taken destination-below reached room =
+    let d = demand-2-of-route N (taken .accepted) source departure (taken .source-below) (taken .departure-below) destination destination-below reached in
+    replies N source departure destination arcs (taken-kept N source departure taken) destination-below reached (omega (arith, d .1, taken .accepted .junctions-fit))
 
 -- The source is reached, at the departure, by the walk of no arcs, and its route is empty.
 pub route-to-source : RouteToSource
-route-to-source N source departure arcs accepted source-below departure-below =
+route-to-source N source departure arcs taken =
     let empty = route-source (netOf N) source departure in
-    let by-start = demand-2 N accepted source departure source-below departure-below .no-sooner source departure start in
-    let taken = taken-kept N source departure (record { accepted = accepted; source-below = source-below; departure-below = departure-below }) in
-    let answer = replies N source departure source arcs taken source-below (λ e. omega arith) (rw empty (omega arith)) ∙ ap (λ way. replied (length way)) empty in
+    let by-start = demand-2 N (taken .accepted) source departure (taken .source-below) (taken .departure-below) .no-sooner source departure start in
+    let answer = replies N source departure source arcs (taken-kept N source departure taken) (taken .source-below)
+    (λ e. omega (arith, taken .departure-below)) (rw empty (omega arith)) ∙ ap (λ way. replied (length way)) empty in
     (answer, rw (answer, empty))

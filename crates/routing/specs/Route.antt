@@ -1,7 +1,7 @@
 -- "Route (network, source, departure, destination, lent arc list). 1 to 10; 12, destination not below the junction count; 13,
 -- destination unreached; 14, the list is shorter than the route. Otherwise the number of arcs, and at the list's start the arc
 -- numbers in driving order, found by following predecessors; later entries are unchanged. From the source to itself: 0 arcs." By
--- document 02, order 5, 32 stands after 8.
+-- document 02, order 5, 32 stands after 8, and by order 7, 36 and 37 after it.
 use Prim.Native.Nat.{ℕ, _≤_, _<_}
 use mathlib.Core.Path.{_≡_}
 use mathlib.Core.Bool.{not}
@@ -10,8 +10,8 @@ use mathlib.Core.Logic.{_↔_}
 use mathlib.Core.Option.{Option, none, some}
 use lib.Dec.{ltb, eqb}
 use lib.ListN.{length, take}
-use Rattle.model.specs.Ticks.{day, never}
-use Rattle.model.specs.Network.{Network, Accepted, netOf}
+use Rattle.model.specs.Ticks.{never}
+use Rattle.model.specs.Network.{Network, netOf}
 use Rattle.model.specs.Demands.{label}
 use Rattle.model.specs.Routes.{routeOf, Driven}
 use Rattle.refusals.specs.Refusals.{numberOf}
@@ -81,11 +81,11 @@ Demand2OfRouteCall = (N : Network) (source departure destination : ℕ) (arcs : 
 
 -- A list of 199 is never too short: with it Route replies for every destination that is reached.
 abbrev pub RoomForEveryRoute : Type 0
-RoomForEveryRoute = (N : Network) (source departure destination : ℕ) (arcs : List ℕ) → Accepted N → source < N .junctions → departure < day → destination < N .junctions →
+RoomForEveryRoute = (N : Network) (source departure destination : ℕ) (arcs : List ℕ) → Taken N source departure → destination < N .junctions →
     (label N source departure destination ≡ never → ⊥) → 199 ≤ length arcs →
     routeAnswer N source departure destination arcs ≡ replied (length (routeOf (netOf N) source departure destination))
 
 -- "From the source to itself: 0 arcs." The reply is 0 and the list is as it was, however short it is.
 abbrev pub RouteToSource : Type 0
-RouteToSource = (N : Network) (source departure : ℕ) (arcs : List ℕ) → Accepted N → source < N .junctions → departure < day →
+RouteToSource = (N : Network) (source departure : ℕ) (arcs : List ℕ) → Taken N source departure →
     (routeAnswer N source departure source arcs ≡ replied 0) × (arcsAfter N source departure source arcs ≡ arcs)

@@ -5,7 +5,7 @@ ghost use lib.ListN.{length};
 ghost use mathlib.Core.List.{reverse};
 ghost use Rattle.model.specs.Limits.{maxJunctions};
 ghost use Rattle.model.specs.Rules.{written};
-ghost use Rattle.model.specs.Lent.{lentNetwork};
+ghost use Rattle.model.specs.Lent.{lentNetwork, lentClosures};
 ghost use Rattle.routing.specs.code.Following.{backFrom, HasStep, StepIs, Leads, Reached, Follows};
 ghost use Rattle.routing.specs.Route.{outcomeOf, arrivalOf, routeAnswer, routeArrival, arcsAfter};
 use labelling::labels::Labelled;
@@ -120,16 +120,17 @@ pub fn route(
     lengths: &[u32],
     holds: &[u16],
     speeds: &[u8],
+    closures: &[[u32; 3]],
     source: u32,
     departure: Tick,
     destination: u32,
     arcs: &mut [u16],
 ) -> Routed
-    ensures answer { λ r. ⌜ outcomeOf r ≡ routeAnswer (lentNetwork junctions fences tails heads lengths holds speeds) source (departure .number)
+    ensures answer { λ r. ⌜ outcomeOf r ≡ routeAnswer (lentNetwork junctions fences tails heads lengths holds speeds (lentClosures closures)) source (departure .number)
         destination (now (arcs .entry)) ⌝ }
-    ensures arrival { λ r. ⌜ arrivalOf r ≡ routeArrival (lentNetwork junctions fences tails heads lengths holds speeds) source (departure .number)
+    ensures arrival { λ r. ⌜ arrivalOf r ≡ routeArrival (lentNetwork junctions fences tails heads lengths holds speeds (lentClosures closures)) source (departure .number)
         destination (now (arcs .entry)) ⌝ }
-    ensures arcs { λ _. ⌜ now (arcs .exit) ≡ arcsAfter (lentNetwork junctions fences tails heads lengths holds speeds) source (departure .number)
+    ensures arcs { λ _. ⌜ now (arcs .exit) ≡ arcsAfter (lentNetwork junctions fences tails heads lengths holds speeds (lentClosures closures)) source (departure .number)
         destination (now (arcs .entry)) ⌝ }
 {
     let mut earliest = [UNREACHED; MAX_JUNCTIONS];
@@ -142,6 +143,7 @@ pub fn route(
         lengths,
         holds,
         speeds,
+        closures,
         source,
         departure,
         &mut earliest,

@@ -8,6 +8,7 @@ use native.Mathlib.Omega.{arith}
 use lib.Dec.{leb, ltb}
 use lib.ListN.{length, getD}
 use borrow.Author.Tests.{lt-ltb, le-ltb}
+use Rattle.checking.proofs.QuestionRules.{no-closures-keep}
 use Rattle.model.specs.Ticks.{day}
 use Rattle.model.specs.Rules.{firstBroken, every}
 use Rattle.model.proofs.Rules.{every-at, at-every}
@@ -134,7 +135,14 @@ module _ (input : List ℕ) (bytes : Bytes input) where
         listed-means some few = go (all-or-late departures)
           where
             taken : ((k : ℕ) → k < length departures → getD departures k 0 < day) → ShiftTaken (networkOf town) source departures
-            taken all = record { accepted = described .1 .kept .network-accepted; source-below = below; some = some; at-most = few; departures-below = all }
+            taken all = record {
+              accepted = described .1 .kept .network-accepted;
+              closures-kept = no-closures-keep refl;
+              source-below = below;
+              some = some;
+              at-most = few;
+              departures-below = all;
+            }
 
             sheet : ((k : ℕ) → k < length departures → getD departures k 0 < day) → Means input (accepted (sheetIn (networkOf town) source departures))
             sheet all = record {

@@ -12,10 +12,12 @@ use lib.Seq.{getD-take, length-take-le, take-all}
 use borrow.Author.Tests.{eq-eqb}
 use Rattle.model.specs.Demands.{label}
 use Rattle.model.specs.Network.{Network, Accepted}
-use Rattle.model.specs.NetworkRules.{networkRules, networkCheck}
+use Rattle.model.specs.NetworkRules.{networkCheck}
 use Rattle.model.specs.Rules.{refused, replied, firstBroken}
 use Rattle.model.specs.Ticks.{never}
-use Rattle.model.proofs.NetworkRules.{accepted-kept, accepts-when-kept}
+use Rattle.model.proofs.NetworkRules.{accepts-when-kept}
+use Rattle.checking.specs.ClosedNetwork.{closedNetworkRules}
+use Rattle.checking.proofs.QuestionRules.{open-kept}
 use Rattle.model.proofs.Rules.{kept-before, refused-before, kept-replies, replies-kept}
 use Rattle.model.proofs.Tests.{ltb-cases}
 use Rattle.townfile.specs.FirstFault.{refusedAt, accepted, firstFault}
@@ -65,16 +67,17 @@ module _ (N : Network) (source : ℕ) (departures : List ℕ) (checked : network
   pub few-junctions : N .junctions ≤ 200
   few-junctions = keeps .junctions-fit
 
-  module _ (labels figures : List ℕ) (labels-long : length labels ≡ length departures * N .junctions) (figures-long : length figures ≡ 4 * N .junctions) where
+  module _ (none : N .closures ≡ []) (labels figures : List ℕ) (labels-long : length labels ≡ length departures * N .junctions)
+      (figures-long : length figures ≡ 4 * N .junctions) where
     shift-only : sheetAnswer N source departures labels figures ≡ firstBroken (shiftRules N source departures) tt
     unfolding sheetAnswer firstBroken
     shift-only =
         let buffers = sheetBufferRules N departures labels figures in
         let shift = shiftRules N source departures in
-        let network-kept = kept-before (networkRules N) (shift ++ buffers) tt (accepted-kept N keeps) in
+        let network-kept = kept-before (closedNetworkRules N) (shift ++ buffers) tt (open-kept N none keeps) in
         let labels-kept = eq-eqb (length labels) (length departures * N .junctions) labels-long in
         let figures-kept = eq-eqb (length figures) (4 * N .junctions) figures-long in
-        ap (λ rules. firstBroken rules tt) (append-assoc (networkRules N) shift buffers) ∙ network-kept ∙ rw (labels-kept, figures-kept)
+        ap (λ rules. firstBroken rules tt) (append-assoc (closedNetworkRules N) shift buffers) ∙ network-kept ∙ rw (labels-kept, figures-kept)
 
     pub sheet-refused : {number : ℕ} → refused number ≡ sheetAnswer N source departures labels figures → networkSheet N source departures ≡ refusedAt number 0
     unfolding networkSheet

@@ -1,5 +1,6 @@
 // What the program prints for its whole input.
 ghost use mathlib.Core.Path.{_≡_};
+ghost use mathlib.Core.List.{[]};
 ghost use Prim.Native.Nat.{_*_, _≤_, min};
 ghost use lib.ListN.{length, take};
 ghost use Rattle.model.specs.Lent.{lentNetwork, networkIn};
@@ -50,15 +51,16 @@ fn sheet_parts(
 ) -> Sheeted
     requires { ⌜ PartsFit junctions (now departures) (now labels) (now figures) ⌝ }
     ensures answer { λ r. ⌜ outcomeOf r ≡
-        sheetAnswer (lentNetwork junctions fences tails heads lengths holds speeds) source (now (departures .entry))
+        sheetAnswer (lentNetwork junctions fences tails heads lengths holds speeds []) source (now (departures .entry))
         (take (length (now (departures .entry)) * junctions) (now (labels .entry))) (take (4 * junctions) (now (figures .entry))) ⌝ }
     ensures figures { λ _. ⌜ take (4 * junctions) (now (figures .exit)) ≡
-        sheetFiguresAfter (lentNetwork junctions fences tails heads lengths holds speeds) source (now (departures .entry))
+        sheetFiguresAfter (lentNetwork junctions fences tails heads lengths holds speeds []) source (now (departures .entry))
         (take (length (now (departures .entry)) * junctions) (now (labels .entry))) (take (4 * junctions) (now (figures .entry))) ⌝ }
 {
     let count = junctions as usize;
     let labels_end = departures.len() * count;
     let figures_end = FIGURES * count;
+    let no_closures = [[0u32; 3]; 0];
     sheet(
         junctions,
         fences,
@@ -67,6 +69,7 @@ fn sheet_parts(
         lengths,
         holds,
         speeds,
+        &no_closures,
         source,
         departures,
         &mut labels[..labels_end],
@@ -87,9 +90,9 @@ fn network_sheet(
     departures: &[u32],
     output: &mut [u8; OUTPUT],
 ) -> Text
-    requires { ⌜ networkCheck (networkIn junctions fences tails heads lengths holds speeds) ≡ replied tt ⌝ }
+    requires { ⌜ networkCheck (networkIn junctions fences tails heads lengths holds speeds []) ≡ replied tt ⌝ }
     requires { ⌜ length (now departures) ≤ 97 ⌝ }
-    ensures { λ r. ⌜ PrintedAnswer linesOf (networkSheet (lentNetwork junctions fences tails heads lengths holds speeds) source (now (departures .entry)))
+    ensures { λ r. ⌜ PrintedAnswer linesOf (networkSheet (lentNetwork junctions fences tails heads lengths holds speeds []) source (now (departures .entry)))
         (now (output .entry)) (now (output .exit)) r ⌝ }
 {
     let mut labels = [0u32; LISTED * MAX_JUNCTIONS];

@@ -18,7 +18,7 @@ use Rattle.dijkstra.specs.Labelable.{Labelable}
 use Rattle.labelling.proofs.LabelRules.{labels-replies-when-labelable}
 use Rattle.sheeting.specs.Sheet.{SheetOfCallMeans}
 use Rattle.sheeting.proofs.RowByRow.{row-is}
-use Rattle.sheeting.proofs.SheetRules.{answered}
+use Rattle.sheeting.proofs.SheetRules.{answered, departure-taken}
 use Rattle.sheeting.specs.Figures.{reaching, journey, journeys, least, greatest, sum, fourOf, figuresFrom, figuresOf}
 use Rattle.sheeting.specs.Figures.{Journey, Journeys, no-departure, reaches, unreached, Among, FiguresMean, figureIn, FiguresOfNetworkMean}
 
@@ -148,7 +148,7 @@ sheet-of-call-means N source departures labels figures e =
     rw e record {
       rows = λ k h buffer predecessors long long′.
           let q : Labelable N source (getD departures k 0) buffer predecessors = record {
-            taken = record { accepted = t .accepted; source-below = t .source-below; departure-below = t .departures-below k h };
+            taken = departure-taken t h;
             labels-long = long;
             predecessors-long = long′;
           } in

@@ -9,10 +9,11 @@ use lib.Dec.{eqb, leb, ltb}
 use lib.ListN.{length, getD}
 use borrow.Author.Tests.{not-false, eqb-true, eq-eqb, ltb-true, lt-ltb, le-ltb, leb-true, le-leb, lt-leb}
 use Rattle.model.specs.Network.{Network}
-use Rattle.model.specs.NetworkRules.{networkRules, networkCheck}
 use Rattle.model.specs.Ticks.{day}
 use Rattle.model.specs.Rules.{AllKept, Outcome, refused, replied, Rule, firstBroken, every}
-use Rattle.model.proofs.NetworkRules.{kept-accepted, accepted-kept}
+use Rattle.checking.specs.ClosedNetwork.{closedNetworkRules, closedNetworkCheck}
+use Rattle.checking.specs.Question.{Taken}
+use Rattle.checking.proofs.QuestionRules.{kept-closed, closed-kept}
 use Rattle.model.proofs.Rules.{kept-replies, replies-kept, refused-at, refused-before, kept-before, kept-append, append-kept, both-true, true-both, every-at, at-every}
 use Rattle.sheeting.specs.Figures.{figuresOf}
 use Rattle.sheeting.specs.Rows.{rowsOf}
@@ -30,24 +31,32 @@ module _ {n : ℕ} where
   pub count-kept : (n ≡ 0 → ⊥) → n ≤ maxDepartures → not (ltb 0 n && leb n maxDepartures) ≡ false
   count-kept some few = rw (lt-ltb 0 n (omega arith), le-leb n maxDepartures few)
 
+-- Each departure of a list that is taken is.
+pub departure-taken : {N : Network} {source : ℕ} {departures : List ℕ} → ShiftTaken N source departures → {k : ℕ} → k < length departures →
+    Taken N source (getD departures k 0)
+departure-taken t {k} inside =
+    record { accepted = t .accepted; closures-kept = t .closures-kept; source-below = t .source-below; departure-below = t .departures-below k inside }
+
 module _ (N : Network) (source : ℕ) (departures : List ℕ) where
   abbrev checkRules : List Rule
-  checkRules = networkRules N ++ shiftRules N source departures
+  checkRules = closedNetworkRules N ++ shiftRules N source departures
 
   -- ---- The network, the source and the list
 
-  -- Network check's refusal comes first.
-  pub network-refuses : {number : ℕ} → refused number ≡ networkCheck N → refused number ≡ shiftCheck N source departures
-  unfolding networkCheck shiftCheck
-  network-refuses {number} e = sym (refused-before (networkRules N) (shiftRules N source departures) tt tt number (sym e))
+  -- The refusal of the network with its closures comes first.
+  pub network-refuses : {number : ℕ} → refused number ≡ closedNetworkCheck N → refused number ≡ shiftCheck N source departures
+  unfolding closedNetworkCheck shiftCheck
+  network-refuses {number} e = sym (refused-before (closedNetworkRules N) (shiftRules N source departures) tt tt number (sym e))
 
   kept-taken : AllKept checkRules → ShiftTaken N source departures
   kept-taken kept =
-      let parts = kept-append (networkRules N) (shiftRules N source departures) kept in
+      let parts = kept-append (closedNetworkRules N) (shiftRules N source departures) kept in
       let count = true-both (ltb 0 (length departures)) (leb (length departures) maxDepartures) (not-false _ (parts .1 .1 .0)) in
       let all = not-false (every inDay departures) (parts .1 .1 .1 .0) in
+      let (accepted, closures) = kept-closed N (parts .0) in
       record {
-        accepted = kept-accepted N (parts .0);
+        accepted = accepted;
+        closures-kept = closures;
         source-below = ltb-true source (N .junctions) (not-false _ (parts .1 .0));
         some = ltb-true 0 (length departures) (count .0);
         at-most = leb-true (length departures) maxDepartures (count .1);
@@ -58,7 +67,7 @@ module _ (N : Network) (source : ℕ) (departures : List ℕ) where
   taken-kept t =
       let count = both-true (lt-ltb 0 (length departures) (t .some)) (le-leb (length departures) maxDepartures (t .at-most)) in
       let all = at-every inDay 0 departures (λ k h. lt-ltb (getD departures k 0) day (t .departures-below k h)) in
-      append-kept (networkRules N) (shiftRules N source departures) (accepted-kept N (t .accepted))
+      append-kept (closedNetworkRules N) (shiftRules N source departures) (closed-kept N (t .accepted) (t .closures-kept))
       (ap not (lt-ltb source (N .junctions) (t .source-below)), (ap not count, (ap not all, tt)))
 
   check-kept : shiftCheck N source departures ≡ replied tt → AllKept checkRules

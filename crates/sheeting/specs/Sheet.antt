@@ -1,5 +1,6 @@
 -- "The station plans with a list of departures, 1 to 96 of them, from one source." "30, the list is empty or above 96, after 9; 31,
--- either buffer has the wrong length, in place of 11, after 10, which now covers every departure." By order 5, 32 stands after 8.
+-- either buffer has the wrong length, in place of 11, after 10, which now covers every departure." By order 5, 32 stands after 8, and by
+-- order 7, 36 and 37 after it.
 use Prim.Native.Nat.{ℕ, _*_, _≤_, _<_}
 use mathlib.Core.Path.{_≡_}
 use mathlib.Core.Bool.{Bool, not, _&&_}
@@ -8,11 +9,12 @@ use mathlib.Core.Logic.{_↔_}
 use lib.Dec.{eqb, leb, ltb}
 use lib.ListN.{length, getD}
 use Rattle.model.specs.Ticks.{day, never}
-use Rattle.model.specs.Network.{Network, Accepted, netOf}
-use Rattle.model.specs.NetworkRules.{networkRules}
+use Rattle.model.specs.Closures.{ClosuresKept}
+use Rattle.model.specs.Network.{Network, Accepted, arcs, netOf}
 use Rattle.model.specs.Walks.{Earliest}
 use Rattle.model.specs.Rules.{Outcome, refused, replied, Rule, _if_, firstBroken, after, every}
 use Rattle.refusals.specs.Refusals.{numberOf}
+use Rattle.checking.specs.ClosedNetwork.{closedNetworkRules}
 use Rattle.checking.specs.Question.{sourceRules}
 use Rattle.labelling.specs.Labels.{labelsAnswer, labelsAfter}
 use Rattle.sheeting.specs.Figures.{figuresOf, figureIn, FiguresMean}
@@ -40,7 +42,7 @@ inDay departure = ltb departure day
 abbrev pub departuresRules : List ℕ → List Rule
 departuresRules departures = (10 if not (every inDay departures)) ∷ []
 
--- The rules on where and when the walks start, after those of the network.
+-- The rules on where and when the walks start, after those of the network with its closures.
 abbrev pub shiftRules : Network → ℕ → List ℕ → List Rule
 shiftRules N source departures = sourceRules N source ++ (listRules departures ++ departuresRules departures)
 
@@ -49,11 +51,11 @@ sheetBufferRules N departures labels figures =
     (31 if not (eqb (length labels) (length departures * N .junctions) && eqb (length figures) (4 * N .junctions))) ∷ []
 
 unfoldable pub shiftCheck : Network → ℕ → List ℕ → Outcome (Unit {0})
-shiftCheck N source departures = firstBroken (networkRules N ++ shiftRules N source departures) tt
+shiftCheck N source departures = firstBroken (closedNetworkRules N ++ shiftRules N source departures) tt
 
 unfoldable pub sheetAnswer : Network → ℕ → List ℕ → List ℕ → List ℕ → Outcome (Unit {0})
 sheetAnswer N source departures labels figures =
-    firstBroken ((networkRules N ++ shiftRules N source departures) ++ sheetBufferRules N departures labels figures) tt
+    firstBroken ((closedNetworkRules N ++ shiftRules N source departures) ++ sheetBufferRules N departures labels figures) tt
 
 -- ---- The buffers
 
@@ -68,6 +70,7 @@ sheetFiguresAfter N source departures labels figures = after (sheetAnswer N sour
 -- The source and every departure of a list of 1 to 96 are taken.
 pub record ShiftTaken (N : Network) (source : ℕ) (departures : List ℕ) : Type 0 where
   pub accepted : Accepted N
+  pub closures-kept : ClosuresKept (arcs N) (N .closures)
   pub source-below : source < N .junctions
   pub some : 0 < length departures
   pub at-most : length departures ≤ maxDepartures

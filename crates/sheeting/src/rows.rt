@@ -1,6 +1,6 @@
 // The rows of a sheet: the labels of one departure after another.
 ghost use mathlib.Core.Path.{_≡_};
-ghost use Rattle.model.specs.Lent.{lentNetwork, networkIn};
+ghost use Rattle.model.specs.Lent.{lentNetwork, lentClosures, networkIn, closuresIn};
 ghost use Rattle.sheeting.specs.Rows.{rowsOf};
 ghost use Rattle.sheeting.specs.code.Writing.{RowsAsked};
 use dijkstra::label::label_from;
@@ -16,12 +16,13 @@ pub(crate) fn write_rows(
     lengths: &[u32],
     holds: &[u16],
     speeds: &[u8],
+    closures: &[[u32; 3]],
     source: usize,
     departures: &[u32],
     labels: &mut [u32],
 )
-    requires { ⌜ RowsAsked (networkIn junctions fences tails heads lengths holds speeds) source (now departures) (now labels) ⌝ }
-    ensures { λ _. ⌜ now (labels .exit) ≡ rowsOf (lentNetwork junctions fences tails heads lengths holds speeds) source (now (departures .entry)) ⌝ }
+    requires { ⌜ RowsAsked (networkIn junctions fences tails heads lengths holds speeds (closuresIn closures)) source (now departures) (now labels) ⌝ }
+    ensures { λ _. ⌜ now (labels .exit) ≡ rowsOf (lentNetwork junctions fences tails heads lengths holds speeds (lentClosures closures)) source (now (departures .entry)) ⌝ }
 {
     let mut predecessors = [NO_ARC; MAX_JUNCTIONS];
     let mut k = 0;
@@ -36,6 +37,7 @@ pub(crate) fn write_rows(
             lengths,
             holds,
             speeds,
+            closures,
             source,
             departures[k],
             &mut labels[from..to],

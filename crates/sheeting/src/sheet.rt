@@ -1,13 +1,13 @@
 // Sheet: the labels and the figures of a list of departures.
 ghost use mathlib.Core.Path.{_≡_};
-ghost use Rattle.model.specs.Lent.{lentNetwork};
+ghost use Rattle.model.specs.Lent.{lentNetwork, lentClosures};
 ghost use Rattle.checking.specs.NetworkCheck.{outcomeOf as networkOutcomeOf};
 ghost use Rattle.model.specs.Rules.{every};
 ghost use Rattle.sheeting.specs.Sheet.{outcomeOf, inDay, shiftCheck, sheetAnswer, sheetLabelsAfter, sheetFiguresAfter};
 use crate::figures::write_figures;
 use crate::rows::write_rows;
+use checking::closure::closed_network_check;
 use checking::network::NetworkCheck;
-use checking::network::network_check;
 use model::tick::Tick;
 use refusals::refusal::Refusal;
 
@@ -35,7 +35,7 @@ fn departures_keep(departures: &[u32]) -> bool
     true
 }
 
-// The rules on the network, the source and the list.
+// The rules on the network with its closures, the source and the list.
 fn shift_check(
     junctions: u32,
     fences: &[u32],
@@ -44,12 +44,13 @@ fn shift_check(
     lengths: &[u32],
     holds: &[u16],
     speeds: &[u8],
+    closures: &[[u32; 3]],
     source: u32,
     departures: &[u32],
 ) -> NetworkCheck
-    ensures { λ r. ⌜ networkOutcomeOf r ≡ shiftCheck (lentNetwork junctions fences tails heads lengths holds speeds) source (now (departures .entry)) ⌝ }
+    ensures { λ r. ⌜ networkOutcomeOf r ≡ shiftCheck (lentNetwork junctions fences tails heads lengths holds speeds (lentClosures closures)) source (now (departures .entry)) ⌝ }
 {
-    if let NetworkCheck::Refused(refusal) = network_check(
+    if let NetworkCheck::Refused(refusal) = closed_network_check(
         junctions,
         fences,
         tails,
@@ -57,6 +58,7 @@ fn shift_check(
         lengths,
         holds,
         speeds,
+        closures,
     ) {
         return NetworkCheck::Refused(refusal);
     }
@@ -83,17 +85,21 @@ pub fn sheet(
     lengths: &[u32],
     holds: &[u16],
     speeds: &[u8],
+    closures: &[[u32; 3]],
     source: u32,
     departures: &[u32],
     labels: &mut [u32],
     figures: &mut [u32],
 ) -> Sheeted
     ensures answer { λ r. ⌜ outcomeOf r ≡
-        sheetAnswer (lentNetwork junctions fences tails heads lengths holds speeds) source (now (departures .entry)) (now (labels .entry)) (now (figures .entry)) ⌝ }
+        sheetAnswer (lentNetwork junctions fences tails heads lengths holds speeds (lentClosures closures))
+        source (now (departures .entry)) (now (labels .entry)) (now (figures .entry)) ⌝ }
     ensures labels { λ _. ⌜ now (labels .exit) ≡
-        sheetLabelsAfter (lentNetwork junctions fences tails heads lengths holds speeds) source (now (departures .entry)) (now (labels .entry)) (now (figures .entry)) ⌝ }
+        sheetLabelsAfter (lentNetwork junctions fences tails heads lengths holds speeds (lentClosures closures))
+        source (now (departures .entry)) (now (labels .entry)) (now (figures .entry)) ⌝ }
     ensures figures { λ _. ⌜ now (figures .exit) ≡
-        sheetFiguresAfter (lentNetwork junctions fences tails heads lengths holds speeds) source (now (departures .entry)) (now (labels .entry)) (now (figures .entry)) ⌝ }
+        sheetFiguresAfter (lentNetwork junctions fences tails heads lengths holds speeds (lentClosures closures))
+        source (now (departures .entry)) (now (labels .entry)) (now (figures .entry)) ⌝ }
 {
     if let NetworkCheck::Refused(refusal) = shift_check(
         junctions,
@@ -103,6 +109,7 @@ pub fn sheet(
         lengths,
         holds,
         speeds,
+        closures,
         source,
         departures,
     ) {
@@ -123,6 +130,7 @@ pub fn sheet(
         lengths,
         holds,
         speeds,
+        closures,
         source as usize,
         departures,
         labels,

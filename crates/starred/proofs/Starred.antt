@@ -11,6 +11,7 @@ use lib.Dec.{ltb}
 use lib.ListN.{getD}
 use borrow.Author.Tests.{ltb-true}
 use Rattle.model.specs.Ticks.{day}
+use Rattle.model.specs.Closures.{closed?, withClosures}
 use Rattle.model.specs.Flow.{covered, firstTick, arrival}
 use Rattle.model.specs.Holds.{arrivalWithHold}
 use Rattle.model.specs.Intervals.{FencesKept, intervalOf, passed, speedAt, tickAndInterval?}
@@ -23,6 +24,7 @@ use Rattle.model.proofs.IntervalPieces.{interval-is-piece}
 use Rattle.model.proofs.NetworkRules.{accepts-when-kept}
 use Rattle.model.proofs.Pieces.{arrival-over-piece}
 use Rattle.model.proofs.Rules.{every-at, fences-kept}
+use Rattle.checking.proofs.QuestionRules.{no-closures-keep}
 use Rattle.dijkstra.specs.Labelable.{Labelable}
 use Rattle.labelling.proofs.LabelRules.{labels-replies-when-labelable}
 use Rattle.arc_arrival.specs.ArcArrival.{arcArrival}
@@ -59,11 +61,11 @@ standing-row = ap (λ (t : ℕ). replied (tickAndInterval? (0 ∷ 100 ∷ []) t)
     stands : arrival v 36 100 ≡ arrival v 36 day
     stands = arrival-over-piece v 100 day 0 36 (interval-is-piece (0 ∷ 100 ∷ []) kept 100 1 (omega arith) refl 0 (omega arith) (36 ∷ 0 ∷ [])) (omega arith)
 
-labels-are : (N : Network) (source departure : ℕ) (expected : List ℕ) → networkCheck N ≡ replied tt → source < N .junctions → departure < day →
+labels-are : (N : Network) → N .closures ≡ [] → (source departure : ℕ) (expected : List ℕ) → networkCheck N ≡ replied tt → source < N .junctions → departure < day →
     labelsOf (netOf N) source departure ≡ expected → LabelsAre N source departure expected
-labels-are N source departure expected checked source-below departure-below computed labels predecessors labels-long predecessors-long =
+labels-are N none source departure expected checked source-below departure-below computed labels predecessors labels-long predecessors-long =
     let q : Labelable N source departure labels predecessors = record {
-      taken = record { accepted = accepts-when-kept N .0 checked; source-below = source-below; departure-below = departure-below };
+      taken = record { accepted = accepts-when-kept N .0 checked; closures-kept = no-closures-keep none; source-below = source-below; departure-below = departure-below };
       labels-long = labels-long;
       predecessors-long = predecessors-long;
     } in
@@ -107,7 +109,7 @@ sample-described = describes sampleText sample-read refl (scanned .0)
 
 -- The network that the lines give.
 abbrev sampleNetwork : Network
-sampleNetwork = network 3 (0 ∷ 100 ∷ []) (0 ∷ 0 ∷ 1 ∷ []) (1 ∷ 2 ∷ 2 ∷ []) (50 ∷ 100 ∷ 50 ∷ []) (0 ∷ 0 ∷ 0 ∷ []) (36 ∷ 18 ∷ 40 ∷ 20 ∷ 36 ∷ 36 ∷ [])
+sampleNetwork = network 3 (0 ∷ 100 ∷ []) (0 ∷ 0 ∷ 1 ∷ []) (1 ∷ 2 ∷ 2 ∷ []) (50 ∷ 100 ∷ 50 ∷ []) (0 ∷ 0 ∷ 0 ∷ []) (36 ∷ 18 ∷ 40 ∷ 20 ∷ 36 ∷ 36 ∷ []) []
 
 sample-network : networkOf (townOf sampleText) ≡ sampleNetwork
 unfolding joined pieces upTo onFirst decimalFrom firstTwo markOf marked townOf flatten
@@ -118,12 +120,12 @@ unfolding networkCheck firstBroken every riseFrom fencesKeep endsKeep
 sample-checked = refl
 
 sample-labels : labelsOf (netOf sampleNetwork) 0 10 ≡ 10 ∷ 60 ∷ 100 ∷ []
-unfolding labelsOf within offers offer driveOf arrivalWithHold speedOn speedAt intervalOf passed arrival firstTick covered
+unfolding labelsOf within offers offer driveOf arrivalWithHold speedOn withClosures closed? speedAt intervalOf passed arrival firstTick covered
 sample-labels = refl
 
 town-row : Claims (Row.town sampleText 0 10 (10 ∷ 60 ∷ 100 ∷ []))
 town-row =
-    let labelled = labels-are sampleNetwork 0 10 (10 ∷ 60 ∷ 100 ∷ []) sample-checked (omega arith) (omega arith) sample-labels in
+    let labelled = labels-are sampleNetwork refl 0 10 (10 ∷ 60 ∷ 100 ∷ []) sample-checked (omega arith) (omega arith) sample-labels in
     (townOf sampleText, sample-described, subst (λ (N : Network). LabelsAre N 0 10 (10 ∷ 60 ∷ 100 ∷ [])) (sym sample-network) labelled)
 
 alike-row : Claims (Row.alike sampleText sampleWithoutComment)

@@ -69,6 +69,7 @@ fn print_one_way(holds: &[u16]) {
     io::write_all(STDOUT_FILENO, b"one way, holds of ");
     io::print_decimal(STDOUT_FILENO, holds.len() as u64);
     io::write_all(STDOUT_FILENO, b" arcs:");
+    let no_closures = [[0u32; 3]; 0];
     print_labels(
         2,
         &fences,
@@ -77,6 +78,7 @@ fn print_one_way(holds: &[u16]) {
         &lengths,
         holds,
         &speeds,
+        &no_closures,
         0,
         &mut earliest,
         &mut predecessors,

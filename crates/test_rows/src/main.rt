@@ -1,5 +1,5 @@
-// The reckonings of document 01 that are run and not proved, and others around midnight, with wrong intervals and with holds, each on a line
-// with what the operation answers. By document 02, order 5, "the rows to keep (..) have hold 0".
+// The reckonings of document 01 that are run and not proved, and others around midnight, with wrong intervals, with holds and with closures, each on
+// a line with what the operation answers. By document 02, order 5, "the rows to keep (..) have hold 0".
 ghost use mathlib.Core.Path.{_≡_};
 ghost use lib.ListN.{length};
 use labelling::labels::Labelled;
@@ -11,6 +11,7 @@ use routing::route::Routed;
 use routing::route::route;
 
 mod arcs;
+mod closures;
 mod holds;
 mod intervals;
 mod midnight;
@@ -63,6 +64,7 @@ fn print_labels(
     lengths: &[u32],
     holds: &[u16],
     speeds: &[u8],
+    closures: &[[u32; 3]],
     departure: u32,
     earliest: &mut [u32],
     predecessors: &mut [u16],
@@ -75,6 +77,7 @@ fn print_labels(
         lengths,
         holds,
         speeds,
+        closures,
         0,
         Tick { number: departure },
         earliest,
@@ -97,6 +100,7 @@ fn print_labels_of_3(
 ) {
     let mut earliest = [0u32; 3];
     let mut predecessors = [0u16; 3];
+    let no_closures = [[0u32; 3]; 0];
     print_labels(
         3,
         fences,
@@ -105,6 +109,7 @@ fn print_labels_of_3(
         lengths,
         holds,
         speeds,
+        &no_closures,
         departure,
         &mut earliest,
         &mut predecessors,
@@ -127,6 +132,7 @@ fn print_sample(source: u32, destination: u32, arcs: &mut [u16]) {
     io::write_all(STDOUT_FILENO, b", room ");
     io::print_decimal(STDOUT_FILENO, arcs.len() as u64);
     io::write_all(STDOUT_FILENO, b":");
+    let no_closures = [[0u32; 3]; 0];
     print_route(route(
         3,
         &fences,
@@ -135,6 +141,7 @@ fn print_sample(source: u32, destination: u32, arcs: &mut [u16]) {
         &lengths,
         &holds,
         &speeds,
+        &no_closures,
         source,
         Tick { number: 10 },
         destination,
@@ -191,6 +198,7 @@ fn print_row_of_junctions(arcs: &mut [u16]) {
     io::write_all(STDOUT_FILENO, b"200 junctions in a row, room ");
     io::print_decimal(STDOUT_FILENO, arcs.len() as u64);
     io::write_all(STDOUT_FILENO, b":");
+    let no_closures = [[0u32; 3]; 0];
     print_route(route(
         200,
         &fences,
@@ -199,6 +207,7 @@ fn print_row_of_junctions(arcs: &mut [u16]) {
         &lengths,
         &holds,
         &speeds,
+        &no_closures,
         0,
         Tick { number: 0 },
         199,
@@ -244,4 +253,5 @@ fn main() {
     midnight::print_rows();
     intervals::print_rows();
     holds::print_rows();
+    closures::print_rows();
 }

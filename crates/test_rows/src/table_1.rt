@@ -17,6 +17,7 @@ fn print_route_of_5(
     departure: u32,
 ) {
     let mut arcs = [9u16; 3];
+    let no_closures = [[0u32; 3]; 0];
     print_route(route(
         5,
         fences,
@@ -25,6 +26,7 @@ fn print_route_of_5(
         lengths,
         holds,
         speeds,
+        &no_closures,
         0,
         Tick { number: departure },
         4,
@@ -123,6 +125,7 @@ pub(crate) fn print_table_1(departure: u32) {
     io::write_all(STDOUT_FILENO, b"Table 1 from ");
     io::print_decimal(STDOUT_FILENO, departure as u64);
     io::write_all(STDOUT_FILENO, b":");
+    let no_closures = [[0u32; 3]; 0];
     print_labels(
         5,
         &fences,
@@ -131,6 +134,7 @@ pub(crate) fn print_table_1(departure: u32) {
         &lengths,
         &holds,
         &speeds,
+        &no_closures,
         departure,
         &mut earliest,
         &mut predecessors,

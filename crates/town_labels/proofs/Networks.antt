@@ -10,9 +10,11 @@ use borrow.Author.Tests.{eq-eqb}
 use Rattle.model.specs.Labels.{labelsOf, predecessorsOf, predecessorOf}
 use Rattle.model.specs.Limits.{maxJunctions}
 use Rattle.model.specs.Network.{Network, Accepted, netOf}
-use Rattle.model.specs.NetworkRules.{networkRules, networkCheck}
+use Rattle.model.specs.NetworkRules.{networkCheck}
 use Rattle.model.specs.Rules.{Outcome, refused, replied, firstBroken, written}
-use Rattle.model.proofs.NetworkRules.{accepted-kept, accepts-when-kept}
+use Rattle.model.proofs.NetworkRules.{accepts-when-kept}
+use Rattle.checking.specs.ClosedNetwork.{closedNetworkRules}
+use Rattle.checking.proofs.QuestionRules.{open-kept}
 use Rattle.model.proofs.Predecessors.{length-tabulate}
 use Rattle.model.proofs.Rules.{kept-before, refused-before, kept-replies, replies-kept}
 use Rattle.model.proofs.Within.{within-length}
@@ -60,7 +62,7 @@ module _ (N : Network) (source departure : ℕ) where
     few-junctions = keeps .junctions-fit
 
     -- Buffers with room for every network.
-    module _ (labels predecessors : List ℕ) (labels-long : maxJunctions ≤ length labels) (predecessors-long : maxJunctions ≤ length predecessors) where
+    module _ (none : N .closures ≡ []) (labels predecessors : List ℕ) (labels-long : maxJunctions ≤ length labels) (predecessors-long : maxJunctions ≤ length predecessors) where
       labels-room : N .junctions ≤ length labels
       labels-room = omega (arith, few-junctions)
 
@@ -74,7 +76,7 @@ module _ (N : Network) (source departure : ℕ) where
       unfolding labelsAnswer firstBroken
       start-only =
           let buffers = bufferRules N (front N labels) (front N predecessors) in
-          let network-kept = kept-before (networkRules N) (startRules N source departure ++ buffers) tt (accepted-kept N keeps) in
+          let network-kept = kept-before (closedNetworkRules N) (startRules N source departure ++ buffers) tt (open-kept N none keeps) in
           let labels-kept = eq-eqb (length (front N labels)) (N .junctions) (length-take-le (N .junctions) labels labels-room) in
           let predecessors-kept = eq-eqb (length (front N predecessors)) (N .junctions) (length-take-le (N .junctions) predecessors predecessors-room) in
           network-kept ∙ rw (labels-kept, predecessors-kept)

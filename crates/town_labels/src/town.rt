@@ -49,6 +49,7 @@ fn labels_in_tables(
         (now (labels .entry)) (now (predecessors .entry)) ⌝ }
 {
     let speed_count = arcs * intervals;
+    let no_closures = [[0u32; 3]; 0];
     labels_within(
         junctions,
         &fences[..intervals],
@@ -57,6 +58,7 @@ fn labels_in_tables(
         &lengths[..arcs],
         &holds[..arcs],
         &speeds[..speed_count],
+        &no_closures,
         source,
         Tick { number: departure },
         labels,

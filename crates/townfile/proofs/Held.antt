@@ -1,7 +1,7 @@
 -- A town in the tables: after a text is loaded its town's network stands at their start, of as many entries as the counts say; and
 -- tables with room for every town take every text that describes one.
 use Prim.Native.Nat.{ℕ, zero, suc, _*_, _≤_}
-use mathlib.Core.Path.{_≡_, refl, sym, _∙_}
+use mathlib.Core.Path.{_≡_, refl, sym, ap, _∙_}
 use mathlib.Core.Bool.{Bool, false}
 use mathlib.Core.List.{List, [], _∷_, map}
 use native.Mathlib.Nat.{mul-le-mul}
@@ -9,7 +9,7 @@ use native.Mathlib.Omega.{arith}
 use lib.ListN.{length, getD, take, drop, replicate, length-append, length-replicate}
 use lib.Seq.{take-append-seam}
 use Rattle.model.specs.Limits.{maxArcs, maxIntervals}
-use Rattle.model.specs.Network.{Network, Accepted, arcs, intervals, driveOf}
+use Rattle.model.specs.Network.{Network, network, Accepted, arcs, intervals, driveOf}
 use Rattle.model.proofs.Holds.{no-hold}
 use Rattle.model.specs.Rules.{written}
 use Rattle.townfile.specs.FirstFault.{accepted}
@@ -33,8 +33,9 @@ pub record Stands (N : Network) (reply : Counts) (held : Tables) : Type 0 where
   pub long : LongEnough reply held
   pub is-network : networkAt reply held ≡ N
 
-holding-stands : (N : Network) → Accepted N → (lent : Tables) → Stands N (counts (N .junctions) (intervals N) (arcs N)) (holding N lent)
-holding-stands N kept lent =
+-- a network without closures, as no file has any
+holding-stands : (N : Network) → N .closures ≡ [] → Accepted N → (lent : Tables) → Stands N (counts (N .junctions) (intervals N) (arcs N)) (holding N lent)
+holding-stands N none kept lent =
     let heads = sym (kept .heads-long) in
     let lengths = sym (kept .lengths-long) in
     let holds = sym (kept .holds-long) in
@@ -54,7 +55,8 @@ holding-stands N kept lent =
         holds-long = written-long (N .holds) (lent .holds) holds;
         speeds-long = written-long (N .speeds) (lent .speeds) speeds;
       };
-      is-network = rw (fences-start, tails-start, heads-start, lengths-start, holds-start, speeds-start);
+      is-network = rw (fences-start, tails-start, heads-start, lengths-start, holds-start, speeds-start)
+          (ap (network (N .junctions) (N .fences) (N .tails) (N .heads) (N .lengths) (N .holds) (N .speeds)) (sym none));
     }
 
 -- In the old form no arc is held.
@@ -91,7 +93,7 @@ loaded-stands text lent {reply} {held} bytes e are =
     go : (form : Bool) (T : Town) → Describes text form T → reply ≡ countsOfTown T → held ≡ holding (networkOf T) lent → Stands (networkOf (townOf text)) reply held
     go form T described counted holds =
         let kept = described .kept .network-accepted in
-        rw (described-town described, counted, holds) (holding-stands (networkOf T) kept lent)
+        rw (described-town described, counted, holds) (holding-stands (networkOf T) refl kept lent)
 
 -- ---- Room for every town
 

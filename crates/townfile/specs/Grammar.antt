@@ -61,7 +61,7 @@ pub record Town : Type 0 where
   pub names : List Named
   pub arcs : List Arc
 
--- The town's network: a table for each of the arcs' fields, and "the speeds arc by arc".
+-- The town's network: a table for each of the arcs' fields, and "the speeds arc by arc". A file has no closures.
 abbrev pub networkOf : Town → Network
 networkOf T = record {
   junctions = T .junctions;
@@ -71,6 +71,7 @@ networkOf T = record {
   lengths = map (λ a. a .metres) (T .arcs);
   holds = map (λ a. a .hold) (T .arcs);
   speeds = flatten (map (λ a. a .speeds) (T .arcs));
+  closures = [];
 }
 
 abbrev pub numbersOfNames : List Named → List ℕ

@@ -5,7 +5,7 @@ use Prim.Native.Nat.{ℕ, _*_, _≤_}
 use mathlib.Core.Path.{_≡_}
 use mathlib.Core.Bool.{Bool, cond, _||_}
 use mathlib.Core.Logic.{_↔_}
-use mathlib.Core.List.{List}
+use mathlib.Core.List.{List, []}
 use lib.Dec.{ltb}
 use lib.ListN.{length, take, replicate}
 use Rattle.model.specs.Limits.{maxArcs, maxIntervals}
@@ -69,6 +69,7 @@ networkAt asked held = record {
   lengths = take (asked .arcs) (held .lengths);
   holds = take (asked .arcs) (held .holds);
   speeds = take (asked .arcs * asked .intervals) (held .speeds);
+  closures = [];
 }
 
 -- Lengths of tables that are too small for their own entries.

@@ -129,19 +129,20 @@ fn print_throughput(measured: &[Measured]) {
     }
 }
 
-/// By what factor each operation grows from the small town to the large one.
+/// By what factor each operation grows from the small town, if it is measured on it, to the
+/// large one.
 fn print_growth(measured: &[Measured]) {
     println!();
     println!("| small to large | Rattle instructions | Rust | Rattle time | Rust |");
     println!("|---|--:|--:|--:|--:|");
-    for operation in Operation::ALL {
+    for operation in Operation::ALL.into_iter().filter(|one| one.takes("small")) {
         let find = |town| {
             let wanted =
                 |one: &&Measured| one.row.operation == operation && one.row.town.name == town;
             measured
                 .iter()
                 .find(wanted)
-                .expect("every operation has this town")
+                .expect("it is measured on both towns")
         };
         let (small, large) = (find("small"), find("large"));
         let [rattle, rust] = factors(large.instructions, small.instructions);

@@ -16,13 +16,15 @@ pub enum Operation {
     Labels,
     LabelsEvening,
     LabelsHeld,
+    LabelsClosures1,
+    LabelsClosures64,
     Route,
     Sheet,
     HostQuestion,
 }
 
 impl Operation {
-    pub const ALL: [Self; 10] = [
+    pub const ALL: [Self; 12] = [
         Self::Load,
         Self::LoadHeld,
         Self::ToNew,
@@ -30,6 +32,8 @@ impl Operation {
         Self::Labels,
         Self::LabelsEvening,
         Self::LabelsHeld,
+        Self::LabelsClosures1,
+        Self::LabelsClosures64,
         Self::Route,
         Self::Sheet,
         Self::HostQuestion,
@@ -44,6 +48,8 @@ impl Operation {
             Self::Labels => "labels",
             Self::LabelsEvening => "labels-evening",
             Self::LabelsHeld => "labels-held",
+            Self::LabelsClosures1 => "labels-closures-1",
+            Self::LabelsClosures64 => "labels-closures-64",
             Self::Route => "route",
             Self::Sheet => "sheet",
             Self::HostQuestion => "host-question",
@@ -56,6 +62,7 @@ impl Operation {
             Self::Labels | Self::LabelsEvening | Self::LabelsHeld | Self::Sheet => true,
             Self::Load | Self::LoadHeld | Self::ToNew | Self::ToOld => town != "full",
             Self::Route | Self::HostQuestion => town != "full",
+            Self::LabelsClosures1 | Self::LabelsClosures64 => town == Town::CLOSED,
         }
     }
 
@@ -135,8 +142,12 @@ impl Row {
             Operation::Load | Operation::LoadHeld => load(operations, &self.town),
             Operation::ToNew => convert(operations.to_new, &self.town),
             Operation::ToOld => convert(operations.to_old, &self.town),
-            Operation::Labels | Operation::LabelsHeld => labels(operations, &self.town, DEPARTURE),
-            Operation::LabelsEvening => labels(operations, &self.town, EVENING),
+            Operation::Labels | Operation::LabelsHeld => {
+                labels(operations, &self.town, 0, DEPARTURE)
+            }
+            Operation::LabelsEvening => labels(operations, &self.town, 0, EVENING),
+            Operation::LabelsClosures1 => labels(operations, &self.town, 1, DEPARTURE),
+            Operation::LabelsClosures64 => labels(operations, &self.town, 64, DEPARTURE),
             Operation::Route => route(operations, &self.town),
             Operation::Sheet => sheet(operations, &self.town),
             Operation::HostQuestion => host_question(operations, &self.town),
@@ -173,13 +184,20 @@ fn convert<'a>(converter: Converter, town: &'a Town) -> Box<dyn FnMut() + 'a> {
     })
 }
 
-fn labels<'a>(operations: &'a Operations, town: &'a Town, departure: u32) -> Box<dyn FnMut() + 'a> {
+fn labels<'a>(
+    operations: &'a Operations,
+    town: &'a Town,
+    closures: usize,
+    departure: u32,
+) -> Box<dyn FnMut() + 'a> {
     let network = town.network.lent();
+    let closures = town.closures(closures);
     let mut labels = vec![0; network.junctions as usize];
     let mut predecessors = vec![0; network.junctions as usize];
     Box::new(move || {
         let reply = (operations.labels)(
             black_box(&network),
+            black_box(&closures),
             SOURCE,
             departure,
             black_box(&mut labels),
@@ -196,6 +214,7 @@ fn route<'a>(operations: &'a Operations, town: &'a Town) -> Box<dyn FnMut() + 'a
     Box::new(move || {
         let reply = (operations.route)(
             black_box(&network),
+            black_box(&[]),
             SOURCE,
             DEPARTURE,
             destination,
@@ -213,6 +232,7 @@ fn sheet<'a>(operations: &'a Operations, town: &'a Town) -> Box<dyn FnMut() + 'a
     Box::new(move || {
         let reply = (operations.sheet)(
             black_box(&network),
+            black_box(&[]),
             SOURCE,
             black_box(&departures),
             black_box(&mut labels),

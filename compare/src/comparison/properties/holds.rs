@@ -3,15 +3,18 @@
 
 use std::mem;
 
-use super::{arrival_at, cabinet_arrival, cabinet_labels, expect_arrival, in_time};
+use super::{
+    arrival_at, cabinet_arrival, cabinet_labels, expect_arrival, in_time, refused_by_the_source,
+};
 use crate::cabinet;
-use crate::comparison::answers::shown;
+use crate::comparison::answers::{shown, shown_closed};
 use crate::comparison::{Check, Difference, Outcome};
+use crate::inputs::Random;
+use crate::inputs::closures::random_closures;
 use crate::inputs::damage::damage_holds;
 use crate::inputs::networks::{random_arc, random_arc_departure, random_departure, random_network};
-use crate::inputs::{OwnedNetwork, Random};
-use crate::reference::Refusal;
-use crate::reference::limits::{DAY, MAX_ARCS, MAX_JUNCTIONS};
+use crate::reference::limits::{MAX_ARCS, MAX_JUNCTIONS};
+use crate::reference::{Closure, Refusal};
 
 pub const ARC_HELD: Check = Check {
     name: "arc held",
@@ -58,29 +61,41 @@ fn arc_held(random: &mut Random) -> Result<Outcome, Difference> {
 }
 
 /// If stop lines become junctions and their holds arcs that take as long, the junctions
-/// that there were have the same labels and predecessors. Nothing is found where no stop
-/// line became a junction.
+/// that there were have the same labels and predecessors. What closed such an arc closes
+/// the way to its stop line alone. Nothing is found where no stop line became a junction.
 fn holds_as_arcs(random: &mut Random) -> Result<Outcome, Difference> {
     let network = random_network(random);
+    let source = random.below(network.junctions);
+    let departure = random_departure(random, &network.fences);
+    let closures = random_closures(random, &network, source, departure);
     let mut with_stop_lines = network.clone();
+    let mut before_stop_lines = closures.clone();
     let chances = random.pick(&[1, 3]);
     for arc in 0..network.arcs() {
         let room = with_stop_lines.junctions < MAX_JUNCTIONS && with_stop_lines.arcs() < MAX_ARCS;
         if room && network.holds[arc] > 0 && random.one_in(chances) {
-            with_stop_lines.make_stop_line_a_junction(arc);
+            let way = with_stop_lines.make_stop_line_a_junction(arc);
+            for (closure, moved) in closures.iter().zip(&mut before_stop_lines) {
+                if closure.arc as usize == arc {
+                    moved.arc = way as u32;
+                }
+            }
         }
     }
-    let source = random.below(network.junctions);
-    let departure = random_departure(random, &network.fences);
-    let expected = cabinet_labels(&network, source, departure);
-    let (mut labels, mut predecessors) = cabinet_labels(&with_stop_lines, source, departure);
+    let expected = cabinet_labels(&network, &closures, source, departure);
+    let (mut labels, mut predecessors) =
+        cabinet_labels(&with_stop_lines, &before_stop_lines, source, departure);
     labels.truncate(network.junctions as usize);
     predecessors.truncate(network.junctions as usize);
     let found = (labels, predecessors);
     if found != expected {
         return Err(Difference {
             question: format!("labels from {source} at {departure}, and with holds as arcs"),
-            input: [shown(&network), shown(&with_stop_lines)].concat(),
+            input: [
+                shown_closed(&network, &closures),
+                shown_closed(&with_stop_lines, &before_stop_lines),
+            ]
+            .concat(),
             expected: format!("{expected:?}"),
             found: format!("{found:?}"),
         });
@@ -107,9 +122,14 @@ fn hold_table(random: &mut Random) -> Result<Outcome, Difference> {
         Ok(())
     };
     let check = cabinet::network_check(&network.lent());
-    // A good network's source is refused instead.
-    let after_network = expected.and(Err(Refusal(9)));
-    let found = (check, refused_after_network(&network));
+    // To a good network the list of closures is refused instead, for their number.
+    let after_network = expected.and(Err(Refusal(36)));
+    let wrong = Closure {
+        arc: u32::MAX,
+        first: 1,
+        end: 0,
+    };
+    let found = (check, refused_by_the_source(&network, &[wrong; 65]));
     let expected = (expected, [after_network; 3]);
     if found != expected {
         return Err(Difference {
@@ -120,15 +140,4 @@ fn hold_table(random: &mut Random) -> Result<Outcome, Difference> {
         });
     }
     Ok(Outcome::of(&check))
-}
-
-/// What Labels, Route and Sheet say to an unknown source, with all else wrong too.
-fn refused_after_network(network: &OwnedNetwork) -> [Result<(), Refusal>; 3] {
-    let network = &network.lent();
-    let unknown = network.junctions;
-    [
-        cabinet::labels(network, unknown, DAY, &mut [], &mut []),
-        cabinet::route(network, unknown, DAY, unknown, &mut []).map(drop),
-        cabinet::sheet(network, unknown, &[], &mut [], &mut []),
-    ]
 }

@@ -191,7 +191,7 @@ fn expect_labels(
     departure: u32,
     expected: (Vec<u32>, Vec<u16>),
 ) -> Result<Outcome, Difference> {
-    let found = cabinet_labels(network, source, departure);
+    let found = cabinet_labels(network, &[], source, departure);
     if found != expected {
         return Err(Difference {
             question: format!("labels from {source} at {departure}"),

@@ -2,12 +2,13 @@
 //! and of a town whose day starts at another tick.
 
 use super::{cabinet_labels, cabinet_reply, driven};
-use crate::comparison::answers::{shown, shown_arc};
+use crate::comparison::answers::{shown_arc, shown_closed};
 use crate::comparison::{Check, Difference, Outcome};
 use crate::inputs::Random;
+use crate::inputs::closures::random_closures;
 use crate::inputs::networks::{interval_at, random_arc, random_departure, random_network};
-use crate::reference::Arrival;
 use crate::reference::limits::{DAY, LAST_TICK, MAX_INTERVALS, NO_ARC, UNREACHED};
+use crate::reference::{Arrival, Closure};
 
 pub const DAY_LATER: Check = Check {
     name: "a day later",
@@ -66,8 +67,9 @@ fn random_departure_of_first_day(random: &mut Random, fences: &[u32]) -> u32 {
     }
 }
 
-/// If a town's day starts at another tick and its speeds are rotated along, whoever
-/// leaves at the same moment has the same labels, as many ticks earlier or later.
+/// If a town's day starts at another tick, and its speeds are rotated and its closures
+/// moved along, whoever leaves at the same moment has the same labels, as many ticks
+/// earlier or later.
 /// Nothing is found unless some label is after midnight in one of the two alone.
 fn labels_rotated(random: &mut Random) -> Result<Outcome, Difference> {
     let network = random_network(random);
@@ -82,13 +84,19 @@ fn labels_rotated(random: &mut Random) -> Result<Outcome, Difference> {
     // Who leaves at an earlier tick has more time to the last one.
     towns.sort_by_key(|&(departure, _)| departure);
     let [(early, town), (late, same_town)] = towns;
-    let (labels, predecessors) = cabinet_labels(town, source, early);
+    let closures = random_closures(random, town, source, early);
+    let later_closures = closed_later(&closures, late - early);
+    let (labels, predecessors) = cabinet_labels(town, &closures, source, early);
     let expected = made_later(&labels, &predecessors, late - early);
-    let found = cabinet_labels(same_town, source, late);
+    let found = cabinet_labels(same_town, &later_closures, source, late);
     if found != expected {
         return Err(Difference {
             question: format!("labels from {source} at {early}, and rotated at {late}"),
-            input: [shown(town), shown(same_town)].concat(),
+            input: [
+                shown_closed(town, &closures),
+                shown_closed(same_town, &later_closures),
+            ]
+            .concat(),
             expected: format!("{expected:?}"),
             found: format!("{found:?}"),
         });
@@ -121,4 +129,16 @@ fn made_later(labels: &[u32], predecessors: &[u16], ticks: u32) -> (Vec<u32>, Ve
         _ => (UNREACHED, NO_ARC),
     };
     labels.iter().zip(predecessors).map(later).unzip()
+}
+
+/// Closures so many ticks later, without what is then after the last tick.
+fn closed_later(closures: &[Closure], ticks: u32) -> Vec<Closure> {
+    let later = closures.iter().map(|closure| Closure {
+        arc: closure.arc,
+        first: closure.first + ticks,
+        end: LAST_TICK.min(closure.end + ticks),
+    });
+    later
+        .filter(|closure| closure.first < closure.end)
+        .collect()
 }

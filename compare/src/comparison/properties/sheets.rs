@@ -3,10 +3,12 @@
 
 use super::cabinet_labels;
 use crate::cabinet;
-use crate::comparison::answers::shown;
+use crate::comparison::answers::shown_closed;
 use crate::comparison::{Check, Difference, Outcome};
+use crate::inputs::closures::random_closures;
 use crate::inputs::networks::{random_departures, random_network};
 use crate::inputs::{OwnedNetwork, Random};
+use crate::reference::Closure;
 use crate::reference::limits::{FIGURES, MAX_DEPARTURES, UNREACHED};
 
 pub const SHEET_BY_LABELS: Check = Check {
@@ -39,12 +41,13 @@ fn sheet_by_labels(random: &mut Random) -> Result<Outcome, Difference> {
     let question = Question::random(random, MAX_DEPARTURES);
     let Question {
         network,
+        closures,
         source,
         departures,
     } = &question;
     let rows: Vec<Vec<u32>> = departures
         .iter()
-        .map(|&departure| cabinet_labels(network, *source, departure).0)
+        .map(|&departure| cabinet_labels(network, closures, *source, departure).0)
         .collect();
     let figures = (0..network.junctions as usize).map(|junction| {
         let labels = rows.iter().map(|row| row[junction]);
@@ -99,6 +102,7 @@ fn sheet_twice(random: &mut Random) -> Result<Outcome, Difference> {
 
 struct Question {
     network: OwnedNetwork,
+    closures: Vec<Closure>,
     source: u32,
     departures: Vec<u32>,
 }
@@ -114,10 +118,13 @@ impl Question {
     fn random(random: &mut Random, most: usize) -> Self {
         let network = random_network(random);
         let count = random.up_to_one_of(&[8, most as u32]) as usize;
+        let source = random.below(network.junctions);
+        let departures = random_departures(random, &network.fences, count);
         Self {
-            source: random.below(network.junctions),
-            departures: random_departures(random, &network.fences, count),
+            closures: random_closures(random, &network, source, departures[0]),
             network,
+            source,
+            departures,
         }
     }
 
@@ -126,9 +133,14 @@ impl Question {
         let junctions = self.network.junctions as usize;
         let mut labels = vec![7; self.departures.len() * junctions];
         let mut figures = vec![7; FIGURES * junctions];
-        let network = self.network.lent();
-        let departures = &self.departures;
-        let reply = cabinet::sheet(&network, self.source, departures, &mut labels, &mut figures);
+        let reply = cabinet::sheet(
+            &self.network.lent(),
+            &self.closures,
+            self.source,
+            &self.departures,
+            &mut labels,
+            &mut figures,
+        );
         reply.expect("a good question");
         Sheet {
             rows: labels.chunks(junctions).map(<[u32]>::to_vec).collect(),
@@ -141,7 +153,7 @@ impl Question {
         if found != *expected {
             return Err(Difference {
                 question: format!("sheet from {} at {:?}", self.source, self.departures),
-                input: shown(&self.network),
+                input: shown_closed(&self.network, &self.closures),
                 expected: format!("{expected:?}"),
                 found: format!("{found:?}"),
             });

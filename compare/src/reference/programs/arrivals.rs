@@ -22,7 +22,7 @@ fn answer(input: &[u8]) -> Result<String, LoadRefusal> {
     start.map_err(|refusal| refusal.at_line(0))?;
     let mut labels = vec![UNREACHED; network.junctions as usize];
     let mut predecessors = vec![NO_ARC; network.junctions as usize];
-    Search::new(&network).run(source, departure, &mut labels, &mut predecessors);
+    Search::new(&network, &[]).run(source, departure, &mut labels, &mut predecessors);
     Ok(table(&labels, &predecessors))
 }
 

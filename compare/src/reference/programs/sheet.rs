@@ -23,7 +23,7 @@ fn answer(input: &[u8]) -> Result<String, LoadRefusal> {
     let junctions = network.junctions as usize;
     let mut labels = vec![UNREACHED; departures.len() * junctions];
     let mut figures = vec![0; FIGURES * junctions];
-    fill(&network, source, departures, &mut labels, &mut figures);
+    fill(&network, &[], source, departures, &mut labels, &mut figures);
     Ok(lines(&figures))
 }
 

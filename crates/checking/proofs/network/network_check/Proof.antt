@@ -2,6 +2,7 @@
 -- rule before it that it is kept (`kept₁` to `kept₉`).
 use borrow.Author.Needs.{needs}
 use mathlib.Core.Path.{_≡_, refl}
+use mathlib.Core.List.{[]}
 use borrow.Author.Tests.{le-ltb, lt-ltb}
 use Rattle.model.specs.Network.{Network}
 use Rattle.model.specs.Lent.{networkIn}
@@ -22,7 +23,7 @@ abbrev N : tie.After-junction-count-keeps → Network
 N c =
     let begun : tie.Start = search in
     let args = begun .args in
-    networkIn (args .junctions) (args .fences) (args .tails) (args .heads) (args .lengths) (args .holds) (args .speeds)
+    networkIn (args .junctions) (args .fences) (args .tails) (args .heads) (args .lengths) (args .holds) (args .speeds) []
 
 abbrev kept₀ : tie.After-junction-count-keeps → KeptSoFar 0
 kept₀ c = none-asked tt _ (by-rules (N c))

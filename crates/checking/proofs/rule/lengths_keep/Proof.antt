@@ -21,15 +21,15 @@ loop-holds c = refl
 returns : tie.Need-returns Inv-loop μ-loop
 returns c =
     let turn : tie.In-loop Inv-loop μ-loop = search in
-    every-fails lengthKeeps _ _ (turn .before .loop .inv) (turn .loop-test .taken) (test-fails (c .before .length-keeps .ensures) (c .if1 .taken))
+    every-fails 0 lengthKeeps _ _ (turn .before .loop .inv) (turn .loop-test .taken) (test-fails (c .before .length-keeps .ensures) (c .if1 .taken))
 
 loop-again : tie.Need-loop-again Inv-loop μ-loop
 loop-again c =
     let turn : tie.In-loop Inv-loop μ-loop = search in
-    every-goes-on lengthKeeps _ _ (turn .before .loop .inv) (turn .loop-test .taken) (test-passes (c .before .length-keeps .ensures) (c .if1 .left))
+    every-goes-on 0 lengthKeeps _ _ (turn .before .loop .inv) (turn .loop-test .taken) (test-passes (c .before .length-keeps .ensures) (c .if1 .left))
 
 returns-2 : tie.Need-returns-2 Inv-loop μ-loop
-returns-2 c = every-ends lengthKeeps _ _ (c .before .loop .inv) (c .loop-test .left)
+returns-2 c = every-ends 0 lengthKeeps _ _ (c .before .loop .inv) (c .loop-test .left)
 
 pub lengths-keep-spec : {M : Type 1} → statement M
 lengths-keep-spec =

@@ -10,7 +10,8 @@ use Rattle.model.specs.Ticks.{never}
 use Rattle.model.specs.Intervals.{timeOfDay, intervalOf}
 use Rattle.model.specs.Labels.{noArc, labelsOf, predecessorsOf}
 use Rattle.model.specs.Network.{Network, network, netOf}
-use Rattle.model.specs.Lent.{networkIn}
+use Rattle.model.specs.Closures.{closuresOf}
+use Rattle.model.specs.Lent.{networkIn, closuresIn}
 use Rattle.checking.specs.Question.{Taken}
 use Rattle.model.proofs.Passed.{passed-at-most}
 use Rattle.tournament.proofs.Matches.{equal-keys}
@@ -23,11 +24,13 @@ use Rattle.dijkstra.proofs.label.label_all.Statement.{statement}
 use Rattle.dijkstra.proofs.label.label_all.Tie as tie
 
 abbrev Inv-loop : tie.InvT-loop
-Inv-loop junctions fences tails heads lengths holds speeds source departure labels₀ predecessors₀ first next settled₀ tree₀ intervals₀ labels predecessors settled tree intervals =
-    Between (network junctions fences tails heads lengths holds speeds) source departure first next settled (tables labels predecessors intervals tree)
+Inv-loop junctions fences tails heads lengths holds speeds closures source
+    departure labels₀ predecessors₀ first next closed settled₀ tree₀ intervals₀ labels predecessors settled tree intervals =
+    Between (network junctions fences tails heads lengths holds speeds (closuresOf closures)) source departure first next settled (tables labels predecessors intervals tree)
 
 abbrev μ-loop : tie.MeasureT-loop
-μ-loop junctions fences tails heads lengths holds speeds source departure labels₀ predecessors₀ first next settled₀ tree₀ intervals₀ labels predecessors settled tree intervals =
+μ-loop junctions fences tails heads lengths holds speeds closures source
+    departure labels₀ predecessors₀ first next closed settled₀ tree₀ intervals₀ labels predecessors settled tree intervals =
     waiting settled
 
 abbrev begun : tie.At-loop Inv-loop μ-loop → tie.Start Inv-loop μ-loop
@@ -107,10 +110,13 @@ settle-requires : tie.Need-settle-requires Inv-loop μ-loop
 settle-requires c κs =
     let j : tie.After-junction-of Inv-loop μ-loop = search in
     let b = round j .loop .inv in
-    record {
-      has-label = nearest j .0 .inside;
-      drivable = drivable (begun (round j) .pre .tables-fit) (b .linked) (b .standing) (below j);
-    }
+    let marked : tie.After-mark-closed Inv-loop μ-loop = search in (
+      record {
+        has-label = nearest j .0 .inside;
+        drivable = drivable (begun (round j) .pre .tables-fit) (b .linked) (b .standing) (below j);
+      },
+      marked .mark-closed .ensures,
+    )
 
 loop-less : tie.Need-loop-less Inv-loop μ-loop
 loop-less c =
@@ -132,7 +138,7 @@ same-length-2 : tie.Need-same-length-2 Inv-loop μ-loop
 same-length-2 c = let l : tie.At-loop Inv-loop μ-loop = search in l .loop .inv .standing .predecessors-long ∙ sym (begun l .pre .predecessors-long)
 
 abbrev N : tie.Start Inv-loop μ-loop → Network
-N s = let args = s .args in networkIn (args .junctions) (args .fences) (args .tails) (args .heads) (args .lengths) (args .holds) (args .speeds)
+N s = let args = s .args in networkIn (args .junctions) (args .fences) (args .tails) (args .heads) (args .lengths) (args .holds) (args .speeds) (closuresIn (args .closures))
 
 abbrev last-round : tie.Then1 Inv-loop μ-loop → tie.At-loop Inv-loop μ-loop
 last-round c = search
@@ -162,6 +168,7 @@ label-all-spec =
     mul-labels
     slice-write-labels
     link-arcs-requires
+    (λ c κs. search needs)
     (λ c κs. search needs)
     (λ c κs. search needs)
     (λ c κs. search needs)

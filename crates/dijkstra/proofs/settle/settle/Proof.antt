@@ -9,14 +9,14 @@ use Rattle.dijkstra.proofs.settle.settle.Tie as tie
 
 -- the junction has a leaf
 has-leaf : (s : tie.Start) → s .args .junction < 256
-has-leaf s = omega (arith, s .pre .has-label, s .pre .drivable .few-junctions)
+has-leaf s = omega (arith, s .pre .0 .has-label, s .pre .0 .drivable .few-junctions)
 
 offer-arcs-requires : tie.Need-offer-arcs-requires
 offer-arcs-requires c κs =
     let begun : tie.Start = search in
     let entered : tie.After-enter = search in
-    let out = entered .enter .ensures (begun .pre .drivable .tournament) (has-leaf begun) in
-    drivable-by (begun .pre .drivable) (out .tournament)
+    let out = entered .enter .ensures (begun .pre .0 .drivable .tournament) (has-leaf begun) in
+    (drivable-by (begun .pre .0 .drivable) (out .tournament), begun .pre .1)
 
 returns : tie.Need-returns
 returns c =
@@ -26,7 +26,7 @@ returns c =
     record {
       settled-is = refl;
       tree = _;
-      out = entered .enter .ensures (begun .pre .drivable .tournament) (has-leaf begun);
+      out = entered .enter .ensures (begun .pre .0 .drivable .tournament) (has-leaf begun);
       offered = made .offer-arcs .ensures;
     }
 

@@ -13,35 +13,36 @@ short-product : (m n : ℕ) → m ≤ 640 → n ≤ 96 → Fits w64 (m * n)
 short-product m n p q = omega (arith, mul-le-mul {n₂ = 640} {m₂ = 96} p q)
 
 returns : tie.Need-returns
-returns c = refuses (λ fit. omega (arith, fit .junctions-fit))
+returns c = λ closures. refuses (λ fit. omega (arith, fit .junctions-fit))
 
 returns-2 : tie.Need-returns-2
-returns-2 c = refuses (λ fit. omega (arith, fit .intervals-fit))
+returns-2 c = λ closures. refuses (λ fit. omega (arith, fit .intervals-fit))
 
 returns-3 : tie.Need-returns-3
-returns-3 c = refuses (λ fit. omega (arith, fit .arcs-fit))
+returns-3 c = λ closures. refuses (λ fit. omega (arith, fit .arcs-fit))
 
 returns-4 : tie.Need-returns-4
-returns-4 c = refuses (λ fit. omega (arith, fit .heads-long))
+returns-4 c = λ closures. refuses (λ fit. omega (arith, fit .heads-long))
 
 returns-5 : tie.Need-returns-5
-returns-5 c = refuses (λ fit. omega (arith, fit .lengths-long))
+returns-5 c = λ closures. refuses (λ fit. omega (arith, fit .lengths-long))
 
 returns-6 : tie.Need-returns-6
-returns-6 c = refuses (λ fit. omega (arith, fit .holds-long))
+returns-6 c = λ closures. refuses (λ fit. omega (arith, fit .holds-long))
 
 mul-if7 : tie.Need-mul-if7
 mul-if7 c = short-product _ _ (omega arith) (omega arith)
 
 returns-7 : tie.Need-returns-7
-returns-7 c = refuses (λ fit. omega (arith, fit .speeds-long))
+returns-7 c = λ closures. refuses (λ fit. omega (arith, fit .speeds-long))
 
 returns-8 : tie.Need-returns-8
-returns-8 c = refuses (λ fit. omega (arith, c .before .highest-u16 .ensures .least _ (fit .some-junction) (fit .tail-below)))
+returns-8 c = λ closures. refuses (λ fit. omega (arith, c .before .highest-u16 .ensures .least _ (fit .some-junction) (fit .tail-below)))
 
 returns-9 : tie.Need-returns-9
 returns-9 c =
     let tails = c .before .before .highest-u16 .ensures in
+    λ closures.
     heads-decide (c .highest-u162 .ensures) (λ below. record {
       some-junction = omega (arith, c .before .if8 .left);
       junctions-fit = omega arith;

@@ -8,7 +8,7 @@ use lib.Dec.{eqb}
 use denote.Ref.{now}
 use borrow.Author.Tests.{eq-eqb, ne-eqb}
 use Rattle.model.specs.Network.{Network}
-use Rattle.model.specs.Lent.{networkIn}
+use Rattle.model.specs.Lent.{networkIn, closuresIn}
 use Rattle.model.specs.Rules.{AllKept}
 use Rattle.model.proofs.Rules.{replies-kept}
 use Rattle.checking.specs.NetworkCheck.{outcomeOf}
@@ -19,7 +19,7 @@ use Rattle.labelling.proofs.labels.labels.Statement.{statement}
 use Rattle.labelling.proofs.labels.labels.Tie as tie
 
 abbrev N : tie.Start → Network
-N s = let args = s .args in networkIn (args .junctions) (args .fences) (args .tails) (args .heads) (args .lengths) (args .holds) (args .speeds)
+N s = let args = s .args in networkIn (args .junctions) (args .fences) (args .tails) (args .heads) (args .lengths) (args .holds) (args .speeds) (closuresIn (args .closures))
 
 abbrev begun : tie.After-enum-told → tie.Start
 begun c = search

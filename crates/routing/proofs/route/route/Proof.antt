@@ -7,7 +7,7 @@ use native.Mathlib.Omega.{arith}
 use lib.ListN.{length, take}
 use lib.Seq.{length-take-le}
 use Rattle.model.specs.Network.{Network}
-use Rattle.model.specs.Lent.{networkIn}
+use Rattle.model.specs.Lent.{networkIn, closuresIn}
 use Rattle.model.specs.Rules.{replied}
 use Rattle.labelling.specs.Labels.{outcomeOf}
 use Rattle.routing.proofs.Tables.{LabelsCalled, labels-called, labels-refuses, taken, few, leads, follows-ends}
@@ -18,20 +18,20 @@ abbrev begun : tie.After-labels-within → tie.Start
 begun c = search
 
 abbrev N : tie.Start → Network
-N s = let args = s .args in networkIn (args .junctions) (args .fences) (args .tails) (args .heads) (args .lengths) (args .holds) (args .speeds)
+N s = let args = s .args in networkIn (args .junctions) (args .fences) (args .tails) (args .heads) (args .lengths) (args .holds) (args .speeds) (closuresIn (args .closures))
 
 -- the tables as Labels leaves them, which are as long as they were
 abbrev labels : tie.After-labels-within → List ℕ
-labels c = c .labels-within .last .1 .1 .1 .1 .1 .1 .1 .1 .1 .0
+labels c = c .labels-within .last .1 .1 .1 .1 .1 .1 .1 .1 .1 .1 .0
 
 abbrev predecessors : tie.After-labels-within → List ℕ
-predecessors c = c .labels-within .last .1 .1 .1 .1 .1 .1 .1 .1 .1 .1 .0
+predecessors c = c .labels-within .last .1 .1 .1 .1 .1 .1 .1 .1 .1 .1 .1 .0
 
 labels-long : (c : tie.After-labels-within) → length (labels c) ≡ 200
-labels-long c = c .labels-within .kept .1 .1 .1 .1 .1 .1 .1 .1 .1 .0
+labels-long c = c .labels-within .kept .1 .1 .1 .1 .1 .1 .1 .1 .1 .1 .0
 
 predecessors-long : (c : tie.After-labels-within) → length (predecessors c) ≡ 200
-predecessors-long c = c .labels-within .kept .1 .1 .1 .1 .1 .1 .1 .1 .1 .1 .0
+predecessors-long c = c .labels-within .kept .1 .1 .1 .1 .1 .1 .1 .1 .1 .1 .1 .0
 
 called : (c : tie.After-labels-within) →
     let s = begun c in

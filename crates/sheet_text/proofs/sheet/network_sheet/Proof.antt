@@ -1,7 +1,7 @@
 -- `sheet::network_sheet`: what the sheet refuses, or the lines of the figures that it writes.
 use Prim.Native.Nat.{ℕ, _*_, _≤_}
-use mathlib.Core.Path.{_≡_, sym, ap, _∙_}
-use mathlib.Core.List.{List}
+use mathlib.Core.Path.{_≡_, refl, sym, ap, _∙_}
+use mathlib.Core.List.{List, []}
 use native.Mathlib.Nat.{mul-le-mul}
 use native.Mathlib.Omega.{arith}
 use lib.ListN.{length, take, replicate, length-replicate}
@@ -20,7 +20,7 @@ use Rattle.sheet_text.proofs.sheet.network_sheet.Statement.{statement}
 use Rattle.sheet_text.proofs.sheet.network_sheet.Tie as tie
 
 abbrev N : tie.Start → Network
-N s = network (s .args .junctions) (now (s .args .fences)) (now (s .args .tails)) (now (s .args .heads)) (now (s .args .lengths)) (now (s .args .holds)) (now (s .args .speeds))
+N s = network (s .args .junctions) (now (s .args .fences)) (now (s .args .tails)) (now (s .args .heads)) (now (s .args .lengths)) (now (s .args .holds)) (now (s .args .speeds)) []
 
 abbrev departures : tie.Start → List ℕ
 departures s = now (s .args .departures)
@@ -62,7 +62,7 @@ returns c =
     let found : tie.After-refusal = search in
     let s = begun called in
     let refuses = ap outcomeOf (sym (found .refusal .given .1)) ∙ called .sheet-parts .ensures .0 in
-    rw (sheet-refused (N s) _ _ (s .pre .0) (labels s) (figures s) (labels-long s) (figures-long s) refuses) (c .refuse .ensures)
+    rw (sheet-refused (N s) _ _ (s .pre .0) refl (labels s) (figures s) (labels-long s) (figures-long s) refuses) (c .refuse .ensures)
 
 -- Where it has written, the figures stand at the table's start.
 module _ (c : tie.After-sheet-parts) (told : c .sheet-parts .result ≡ Written) where
@@ -79,13 +79,13 @@ module _ (c : tie.After-sheet-parts) (told : c .sheet-parts .result ≡ Written)
   long = omega (arith, few s, c .sheet-parts .kept .1 .1 .1 .1 .1 .1 .1 .1 .1 .1 .0)
 
   fits : LinesFit (s .args .junctions) table
-  fits = sheet-fits (N s) _ _ (s .pre .0) (labels s) (figures s) (labels-long s) (figures-long s) is-written table long (c .sheet-parts .ensures .1)
+  fits = sheet-fits (N s) _ _ (s .pre .0) refl (labels s) (figures s) (labels-long s) (figures-long s) is-written table long (c .sheet-parts .ensures .1)
 
   answers : networkSheet (N s) (s .args .source) (departures s) ≡ accepted (sheetIn (N s) (s .args .source) (departures s))
-  answers = sheet-written (N s) _ _ (s .pre .0) (labels s) (figures s) (labels-long s) (figures-long s) is-written
+  answers = sheet-written (N s) _ _ (s .pre .0) refl (labels s) (figures s) (labels-long s) (figures-long s) is-written
 
   lines : sheetLines table 0 (s .args .junctions) ≡ linesOf (sheetIn (N s) (s .args .source) (departures s))
-  lines = sheet-lines (N s) _ _ (s .pre .0) (labels s) (figures s) (labels-long s) (figures-long s) is-written table long (c .sheet-parts .ensures .1)
+  lines = sheet-lines (N s) _ _ (s .pre .0) refl (labels s) (figures s) (labels-long s) (figures-long s) is-written table long (c .sheet-parts .ensures .1)
 
 put-sheet-requires : tie.Need-put-sheet-requires
 put-sheet-requires c κs =

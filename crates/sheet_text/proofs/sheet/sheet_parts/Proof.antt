@@ -26,10 +26,10 @@ labels-count c = let s : tie.Start = search in omega (arith, few-labels s)
 labels-lent : tie.Need-slice-relend-prefix-sheet
 labels-lent c = let s : tie.Start = search in labels-inside s
 
-labels-long : tie.Need-slice-aggregate-sheet
-labels-long c = sym (length-take-le _ _ (labels-lent (c .before)))
+labels-long : tie.Need-slice-aggregate-sheet-2
+labels-long c = let s : tie.Start = search in sym (length-take-le _ _ (labels-inside s))
 
-figures-long : tie.Need-slice-aggregate-sheet-2
+figures-long : tie.Need-slice-aggregate-sheet-3
 figures-long c = let s : tie.Start = search in sym (length-take-le _ _ (few-figures s))
 
 returns : tie.Need-returns
@@ -38,7 +38,7 @@ returns c =
     let called : tie.After-sheet = search in
     let count = 4 * s .args .junctions in
     let part = length-take-le count (now (s .args .figures)) (few-figures s) in
-    let as-long = called .sheet .kept .1 .1 .1 .1 .1 .1 .1 .1 .1 .1 .0 in
+    let as-long = called .sheet .kept .1 .1 .1 .1 .1 .1 .1 .1 .1 .1 .1 .0 in
     let (answers, (labels-are, figures-are)) = called .sheet .ensures in
     (answers, take-at _ _ count (as-long ∙ part) ∙ figures-are)
 
@@ -47,6 +47,7 @@ sheet-parts-spec =
     tie.close
     (tie.spec
     labels-count
+    (λ c. search needs)
     (λ c. search needs)
     labels-lent
     labels-long

@@ -8,24 +8,26 @@ use lib.ListN.{length}
 use lib.Seq.{length-take-le, length-front}
 use denote.Ref.{now}
 use Rattle.model.specs.Network.{Network, network}
-use Rattle.model.specs.Lent.{networkIn}
+use Rattle.model.specs.Closures.{closuresOf}
+use Rattle.model.specs.Lent.{networkIn, closuresIn}
 use Rattle.sheeting.specs.code.Writing.{RowsAsked}
 use Rattle.sheeting.proofs.RowByRow.{RowsWritten, rows-start, row-inside, part-long, rows-go-on, rows-end}
+use Rattle.sheeting.proofs.SheetRules.{departure-taken}
 use Rattle.sheeting.proofs.rows.write_rows.Statement.{statement}
 use Rattle.sheeting.proofs.rows.write_rows.Tie as tie
 
 abbrev Inv-loop : tie.InvT-loop
-Inv-loop junctions fences tails heads lengths holds speeds source departures labels₀ predecessors₀ k₀ labels predecessors k =
-    RowsWritten (network junctions fences tails heads lengths holds speeds) source departures labels₀ k labels × (length predecessors ≡ 200)
+Inv-loop junctions fences tails heads lengths holds speeds closures source departures labels₀ predecessors₀ k₀ labels predecessors k =
+    RowsWritten (network junctions fences tails heads lengths holds speeds (closuresOf closures)) source departures labels₀ k labels × (length predecessors ≡ 200)
 
 abbrev μ-loop : tie.MeasureT-loop
-μ-loop junctions fences tails heads lengths holds speeds source departures labels₀ predecessors₀ k₀ labels predecessors k = length departures - k
+μ-loop junctions fences tails heads lengths holds speeds closures source departures labels₀ predecessors₀ k₀ labels predecessors k = length departures - k
 
 abbrev begun : tie.In-loop Inv-loop μ-loop → tie.Start Inv-loop μ-loop
 begun c = search
 
 abbrev N : tie.Start Inv-loop μ-loop → Network
-N s = let args = s .args in networkIn (args .junctions) (args .fences) (args .tails) (args .heads) (args .lengths) (args .holds) (args .speeds)
+N s = let args = s .args in networkIn (args .junctions) (args .fences) (args .tails) (args .heads) (args .lengths) (args .holds) (args .speeds) (closuresIn (args .closures))
 
 asked : (c : tie.In-loop Inv-loop μ-loop) → let s = begun c in RowsAsked (N s) (s .args .source) (now (s .args .departures)) (now (s .args .labels))
 asked c = begun c .pre
@@ -63,14 +65,13 @@ loop-again c =
     let called : tie.After-label-from Inv-loop μ-loop = search in
     let w = turn .before .loop .inv .0 in
     let more = turn .loop-test .taken in
-    let t = asked turn .taken in
     let first = called .label-from .ensures .0 .when-labelable (record {
-      taken = record { accepted = t .accepted; source-below = t .source-below; departure-below = t .departures-below _ more };
+      taken = departure-taken (asked turn .taken) more;
       labels-long = sym (part-long (asked turn .labels-long) w more);
       predecessors-long = length-take-le _ _ (has-room turn);
     }) in
-    let left = called .label-from .last .1 .1 .1 .1 .1 .1 .1 .1 .1 .1 .0 in
-    let as-long = called .label-from .kept .1 .1 .1 .1 .1 .1 .1 .1 .1 .1 .0 in (
+    let left = called .label-from .last .1 .1 .1 .1 .1 .1 .1 .1 .1 .1 .1 .0 in
+    let as-long = called .label-from .kept .1 .1 .1 .1 .1 .1 .1 .1 .1 .1 .1 .0 in (
       rows-go-on (asked turn .labels-long) w more first,
       length-front (turn .before .loop .predecessors) left (begun turn .args .junctions) as-long ∙ turn .before .loop .inv .1,
     )

@@ -20,12 +20,12 @@ abbrev μ-loop : tie.MeasureT-loop
 returns : tie.Need-returns Inv-loop μ-loop
 returns c =
     let turn = c .before .before in
-    every-fails inDay _ _ (turn .before .loop .inv) (turn .loop-test .taken) (le-ltb _ day (c .if1 .taken))
+    every-fails 0 inDay _ _ (turn .before .loop .inv) (turn .loop-test .taken) (le-ltb _ day (c .if1 .taken))
 
 loop-again : tie.Need-loop-again Inv-loop μ-loop
 loop-again c =
     let turn = c .before .before in
-    every-goes-on inDay _ _ (turn .before .loop .inv) (turn .loop-test .taken) (lt-ltb _ day (c .if1 .left))
+    every-goes-on 0 inDay _ _ (turn .before .loop .inv) (turn .loop-test .taken) (lt-ltb _ day (c .if1 .left))
 
 pub departures-keep-spec : {M : Type 1} → statement M
 departures-keep-spec =
@@ -40,4 +40,4 @@ departures-keep-spec =
     (λ c. search needs)
     (λ c. search needs)
     loop-again
-    (λ c. every-ends inDay _ _ (c .before .loop .inv) (c .loop-test .left)))
+    (λ c. every-ends 0 inDay _ _ (c .before .loop .inv) (c .loop-test .left)))

@@ -6,7 +6,7 @@ use native.Mathlib.Omega.{arith}
 use denote.Ref.{now}
 use borrow.Author.Tests.{ne-eqb, eq-eqb}
 use Rattle.model.specs.Network.{Network}
-use Rattle.model.specs.Lent.{networkIn}
+use Rattle.model.specs.Lent.{networkIn, closuresIn}
 use Rattle.model.specs.Rules.{replied}
 use Rattle.checking.specs.NetworkCheck.{outcomeOf}
 use Rattle.sheeting.specs.Sheet.{shiftCheck, ShiftTaken, Sheetable}
@@ -20,7 +20,7 @@ abbrev begun : tie.After-enum-told → tie.Start
 begun c = search
 
 abbrev N : tie.After-enum-told → Network
-N c = let args = begun c .args in networkIn (args .junctions) (args .fences) (args .tails) (args .heads) (args .lengths) (args .holds) (args .speeds)
+N c = let args = begun c .args in networkIn (args .junctions) (args .fences) (args .tails) (args .heads) (args .lengths) (args .holds) (args .speeds) (closuresIn (args .closures))
 
 -- the source and the list are taken
 checked : (c : tie.After-enum-told) → shiftCheck (N c) (begun c .args .source) (now (begun c .args .departures)) ≡ replied tt

@@ -74,7 +74,7 @@ returns-2 c =
     let town = loaded (counted l) in
     let (answers, (labels-are, predecessors-are)) = l .labels-in-tables .ensures in
     let refused = ap outcomeOf (sym (c .before .refusal2 .given .1)) ∙ answers in
-    let (same, labels-stay, predecessors-stay) = ends-refused (N l) _ _ (town .checked) _ _ (labels-long l) (predecessors-long l) refused in
+    let (same, labels-stay, predecessors-stay) = ends-refused (N l) _ _ (town .checked) refl _ _ (labels-long l) (predecessors-long l) refused in
     rw (town .answers ∙ same) (refl, (labels-are ∙ labels-stay, predecessors-are ∙ predecessors-stay))
 
 returns-3 : tie.Need-returns-3
@@ -83,7 +83,7 @@ returns-3 c =
     let town = loaded (counted l) in
     let (answers, (labels-are, predecessors-are)) = l .labels-in-tables .ensures in
     let written = ap outcomeOf (sym (c .enum-told .given .1)) ∙ answers in
-    let (same, labels-written, predecessors-written) = ends-written (N l) _ _ (town .checked) _ _ (labels-long l) (predecessors-long l) written in
+    let (same, labels-written, predecessors-written) = ends-written (N l) _ _ (town .checked) refl _ _ (labels-long l) (predecessors-long l) written in
     rw (town .answers ∙ same) (ap accepted (sym (labels-count (N l) _ _)), (labels-are ∙ labels-written, predecessors-are ∙ predecessors-written))
 
 pub town-labels-spec : {M : Type 1} → statement M

@@ -1,0 +1,5 @@
+pub mod Parameters
+pub mod Pass
+pub mod Reading
+pub mod Thin
+pub mod Writing

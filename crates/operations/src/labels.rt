@@ -1,0 +1,94 @@
+// Labels, as a caller asks it: with a slice of closures.
+ghost use mathlib.Core.Path.{_≡_};
+ghost use mathlib.Core.List.{List};
+ghost use Rattle.model.specs.Lent.{lentNetwork};
+ghost use Rattle.closures.specs.Records.{readAll};
+ghost use Rattle.labelling.specs.Labels.{outcomeOf, labelsAnswer, labelsAfter, predecessorsAfter};
+use closures::records::Closures;
+use closures::records::read_closures;
+use closures::rows::row_count;
+use closures::rows::rows_of;
+use labelling::labels::Labelled;
+use model::closure::Closure;
+use model::tick::Tick;
+
+// The records that were read, as a flat table of which a part is lent to the operation.
+pub fn labels_read(
+    junctions: u32,
+    fences: &[u32],
+    tails: &[u16],
+    heads: &[u16],
+    lengths: &[u32],
+    holds: &[u16],
+    speeds: &[u8],
+    closures: Closures,
+    source: u32,
+    departure: Tick,
+    labels: &mut [u32],
+    predecessors: &mut [u16],
+) -> Labelled
+    ensures answer { λ r. ⌜ ((xs : List Closure) → closures ≡ readAll xs → outcomeOf r ≡
+        labelsAnswer (lentNetwork junctions fences tails heads lengths holds speeds xs) source (departure .number) (now (labels .entry)) (now (predecessors .entry))) ⌝ }
+    ensures labels { λ _. ⌜ ((xs : List Closure) → closures ≡ readAll xs → now (labels .exit) ≡
+        labelsAfter (lentNetwork junctions fences tails heads lengths holds speeds xs) source (departure .number) (now (labels .entry)) (now (predecessors .entry))) ⌝ }
+    ensures predecessors { λ _. ⌜ ((xs : List Closure) → closures ≡ readAll xs → now (predecessors .exit) ≡
+        predecessorsAfter (lentNetwork junctions fences tails heads lengths holds speeds xs) source (departure .number) (now (labels .entry)) (now (predecessors .entry))) ⌝ }
+{
+    let rows = rows_of(closures);
+    let count = row_count(closures.count);
+    labelling::labels::labels(
+        junctions,
+        fences,
+        tails,
+        heads,
+        lengths,
+        holds,
+        speeds,
+        &rows[..count],
+        source,
+        departure,
+        labels,
+        predecessors,
+    )
+}
+
+pub fn labels(
+    junctions: u32,
+    fences: &[u32],
+    tails: &[u16],
+    heads: &[u16],
+    lengths: &[u32],
+    holds: &[u16],
+    speeds: &[u8],
+    closures: &[Closure],
+    source: u32,
+    departure: Tick,
+    labels: &mut [u32],
+    predecessors: &mut [u16],
+) -> Labelled
+    ensures answer { λ r. ⌜ outcomeOf r ≡
+        labelsAnswer (lentNetwork junctions fences tails heads lengths holds speeds (now (closures .entry)))
+        source (departure .number) (now (labels .entry)) (now (predecessors .entry)) ⌝ }
+    ensures labels { λ _. ⌜ now (labels .exit) ≡
+        labelsAfter (lentNetwork junctions fences tails heads lengths holds speeds (now (closures .entry)))
+        source (departure .number) (now (labels .entry)) (now (predecessors .entry)) ⌝ }
+    ensures predecessors { λ _. ⌜ now (predecessors .exit) ≡
+        predecessorsAfter (lentNetwork junctions fences tails heads lengths holds speeds (now (closures .entry)))
+        source (departure .number) (now (labels .entry)) (now (predecessors .entry)) ⌝ }
+{
+    let records = read_closures(closures);
+    labels_read(
+        junctions,
+        fences,
+        tails,
+        heads,
+        lengths,
+        holds,
+        speeds,
+        records,
+        source,
+        departure,
+        labels,
+        predecessors,
+    )
+}

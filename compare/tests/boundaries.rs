@@ -281,6 +281,44 @@ fn sheet_number(
     number(answers::sheet(network, &[], source, departures, buffers))
 }
 
+/// The numbers of Labels, Route and Sheet from 9 on, each alone and with all later ones,
+/// on a town of ten junctions that is refused with the number before them, or with none.
+fn assert_numbers_after(network: &OwnedNetwork, closures: &[Closure], before: u32) {
+    let expect = |number| if before == 0 { number } else { before };
+    let labels = |start, buffers| number(answers::labels(network, closures, start, buffers));
+    assert_eq!(labels((9, 0), (10, 10)), before);
+    assert_eq!(labels((10, 0), (10, 10)), expect(9));
+    assert_eq!(labels((10, 864_000), (9, 11)), expect(9));
+    assert_eq!(labels((9, 864_000), (10, 10)), expect(10));
+    assert_eq!(labels((9, 864_000), (9, 11)), expect(10));
+    assert_eq!(labels((9, 0), (9, 10)), expect(11));
+    assert_eq!(labels((9, 0), (10, 11)), expect(11));
+
+    let route = |start, destination, list| {
+        number(answers::route(network, closures, start, destination, list))
+    };
+    assert_eq!(route((9, 0), 0, 10), before);
+    assert_eq!(route((10, 0), 0, 10), expect(9));
+    assert_eq!(route((10, 864_000), 10, 0), expect(9));
+    assert_eq!(route((9, 864_000), 10, 0), expect(10));
+    assert_eq!(route((9, 0), 10, 0), expect(12));
+    assert_eq!(route((9, 0), 0, 0), expect(14));
+
+    let sheet = |source, departures: &[u32], buffers| {
+        number(answers::sheet(
+            network, closures, source, departures, buffers,
+        ))
+    };
+    assert_eq!(sheet(9, &[0], (10, 40)), before);
+    assert_eq!(sheet(10, &[0], (10, 40)), expect(9));
+    assert_eq!(sheet(10, &[], (1, 41)), expect(9));
+    assert_eq!(sheet(9, &[], (1, 41)), expect(30));
+    assert_eq!(sheet(9, &[864_000; 97], (1, 41)), expect(30));
+    assert_eq!(sheet(9, &[864_000], (11, 41)), expect(10));
+    assert_eq!(sheet(9, &[0], (11, 40)), expect(31));
+    assert_eq!(sheet(9, &[0], (10, 39)), expect(31));
+}
+
 /// A town of ten junctions.
 fn small_town() -> OwnedNetwork {
     Town::named("small").expect("it has this name").network

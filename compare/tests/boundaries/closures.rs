@@ -9,7 +9,7 @@ use compare::inputs::towns::{DEPARTURE, SOURCE, Town};
 use compare::reference::Closure;
 use compare::reference::limits::{NO_ARC, UNREACHED};
 
-use super::{assert_answered, closed_labels, labels, number, small_town};
+use super::{assert_answered, assert_numbers_after, closed_labels, labels, number, small_town};
 
 fn closure(arc: u32, first: u32, end: u32) -> Closure {
     Closure { arc, first, end }
@@ -659,40 +659,7 @@ fn numbers_after_the_list() {
         (&[good[0]; 65], 36),
         (&[WRONG; 65], 36),
     ] {
-        // Each number alone, and with all later ones.
-        let expect = |number| if before == 0 { number } else { before };
-        let labels = |start, buffers| number(answers::labels(&network, closures, start, buffers));
-        assert_eq!(labels((9, 0), (10, 10)), before);
-        assert_eq!(labels((10, 0), (10, 10)), expect(9));
-        assert_eq!(labels((10, 864_000), (9, 11)), expect(9));
-        assert_eq!(labels((9, 864_000), (10, 10)), expect(10));
-        assert_eq!(labels((9, 864_000), (9, 11)), expect(10));
-        assert_eq!(labels((9, 0), (9, 10)), expect(11));
-        assert_eq!(labels((9, 0), (10, 11)), expect(11));
-
-        let route = |start, destination, list| {
-            number(answers::route(&network, closures, start, destination, list))
-        };
-        assert_eq!(route((9, 0), 0, 10), before);
-        assert_eq!(route((10, 0), 0, 10), expect(9));
-        assert_eq!(route((10, 864_000), 10, 0), expect(9));
-        assert_eq!(route((9, 864_000), 10, 0), expect(10));
-        assert_eq!(route((9, 0), 10, 0), expect(12));
-        assert_eq!(route((9, 0), 0, 0), expect(14));
-
-        let sheet = |source, departures: &[u32], buffers| {
-            number(answers::sheet(
-                &network, closures, source, departures, buffers,
-            ))
-        };
-        assert_eq!(sheet(9, &[0], (10, 40)), before);
-        assert_eq!(sheet(10, &[0], (10, 40)), expect(9));
-        assert_eq!(sheet(10, &[], (1, 41)), expect(9));
-        assert_eq!(sheet(9, &[], (1, 41)), expect(30));
-        assert_eq!(sheet(9, &[864_000; 97], (1, 41)), expect(30));
-        assert_eq!(sheet(9, &[864_000], (11, 41)), expect(10));
-        assert_eq!(sheet(9, &[0], (11, 40)), expect(31));
-        assert_eq!(sheet(9, &[0], (10, 39)), expect(31));
+        assert_numbers_after(&network, closures, before);
     }
     // An unreached destination, by the closure alone.
     let network = ten_metres();

@@ -10,8 +10,8 @@ use compare::inputs::towns::DEPARTURE;
 use compare::reference::limits::{NO_ARC, UNREACHED};
 
 use super::{
-    Moment, arc_number, arrival_on, assert_answered, labels, lone_arc, number, sheet_number,
-    small_town,
+    Moment, arc_number, arrival_on, assert_answered, assert_numbers_after, labels, lone_arc,
+    number, sheet_number, small_town,
 };
 
 /// The numbers of Network check, Labels, Route and Sheet for the small town with some of
@@ -164,33 +164,7 @@ fn numbers_after_a_hold() {
     let mut network = small_town();
     for (hold, before) in [(1_200, 0), (1_201, 32)] {
         network.holds[LAST_ARC] = hold;
-        // Each number alone, and with all later ones.
-        let expect = |number| if before == 0 { number } else { before };
-        let labels = |start, buffers| number(answers::labels(&network, &[], start, buffers));
-        assert_eq!(labels((10, 0), (10, 10)), expect(9));
-        assert_eq!(labels((10, 864_000), (9, 11)), expect(9));
-        assert_eq!(labels((9, 864_000), (10, 10)), expect(10));
-        assert_eq!(labels((9, 864_000), (9, 11)), expect(10));
-        assert_eq!(labels((9, 0), (9, 10)), expect(11));
-        assert_eq!(labels((9, 0), (10, 11)), expect(11));
-
-        let route = |start, destination, list| {
-            number(answers::route(&network, &[], start, destination, list))
-        };
-        assert_eq!(route((10, 864_000), 10, 0), expect(9));
-        assert_eq!(route((9, 864_000), 10, 0), expect(10));
-        assert_eq!(route((9, 0), 10, 0), expect(12));
-        assert_eq!(route((9, 0), 0, 0), expect(14));
-
-        let sheet = |source, departures: &[u32], buffers| {
-            sheet_number(&network, source, departures, buffers)
-        };
-        assert_eq!(sheet(10, &[], (1, 41)), expect(9));
-        assert_eq!(sheet(9, &[], (1, 41)), expect(30));
-        assert_eq!(sheet(9, &[864_000; 97], (1, 41)), expect(30));
-        assert_eq!(sheet(9, &[864_000], (11, 41)), expect(10));
-        assert_eq!(sheet(9, &[0], (11, 40)), expect(31));
-        assert_eq!(sheet(9, &[0], (10, 39)), expect(31));
+        assert_numbers_after(&network, &[], before);
     }
 }
 

@@ -10,7 +10,7 @@ use borrow.Author.Tests.{not-false, ltb-true, ltb-false, lt-ltb, le-ltb}
 use Rattle.model.specs.Ticks.{day}
 use Rattle.model.specs.Closures.{maxClosures, closureKeeps, ClosuresKept}
 use Rattle.model.specs.declared.closure.Closure.{Closure}
-use Rattle.model.specs.Network.{Network, network, arcs}
+use Rattle.model.specs.Network.{Network, closedBy, arcs}
 use Rattle.model.specs.Network as Plain
 use Rattle.model.specs.NetworkRules.{networkRules, networkCheck}
 use Rattle.model.specs.Rules.{AllKept, every, refused}
@@ -24,14 +24,11 @@ use Rattle.checking.specs.declared.network.NetworkCheck.{NetworkCheck}
 use Rattle.checking.specs.declared.network.NetworkCheck.the-variants.{Accepted}
 
 -- Network check is asked of the network without its closures: its rules do not read them.
-abbrev alone : Network → Network
-alone N = network (N .junctions) (N .fences) (N .tails) (N .heads) (N .lengths) (N .holds) (N .speeds) []
-
-pub alone-keeps : (N : Network) {answer : NetworkCheck} → outcomeOf answer ≡ networkCheck (alone N) → answer ≡ Accepted → AllKept (networkRules N)
+pub alone-keeps : (N : Network) {answer : NetworkCheck} → outcomeOf answer ≡ networkCheck (closedBy N []) → answer ≡ Accepted → AllKept (networkRules N)
 unfolding networkCheck
 alone-keeps N is told = replies-kept (networkRules N) tt tt (sym is ∙ ap outcomeOf told)
 
-pub alone-refuses : (N : Network) (number : ℕ) → refused number ≡ networkCheck (alone N) → refused number ≡ closedNetworkCheck N
+pub alone-refuses : (N : Network) (number : ℕ) → refused number ≡ networkCheck (closedBy N []) → refused number ≡ closedNetworkCheck N
 unfolding networkCheck closedNetworkCheck
 alone-refuses N number e = sym (refused-before (networkRules N) (closureRules N) tt tt number (sym e))
 

@@ -221,7 +221,8 @@ module _ {M : Type 1} (𝓤 : URA M) (H : Heap 𝓤) (A : Atoms 𝓤) (W : Given
     found : {Γ : List (Item 𝓤)} {i : ℕ} {τ : Ty} {b : ℕ} {Es : Env 𝓤 H} {st : List PStep} {sp : Spot 𝓤 H} → from i E ≡ (τ, b) ∷ Es
         → Walks (Go {0}) W Γ E (τ, b, zero) st sp → Finds (Go {0}) W Γ E (place i st) sp
     found {Γ} {i} {τ} {b} {Es} {st} {sp} e w = record {
-      go = λ Kt h. subst (λ (p : Ty × ℕ). ent 𝓤 (⋆ 𝓤 H A Γ) (walk 𝓤 H E (p .0, p .1, zero) st Kt)) (sym (get-from i E (noLocal 𝓤 H) ∙ ap (hd′ (noLocal 𝓤 H)) e)) (w .go Kt h);
+      go = λ Kt h. subst (λ (p : Ty × ℕ). ent 𝓤 (⋆ 𝓤 H A Γ) (walk 𝓤 H E (p .0, p .1, zero) st Kt))
+          (sym (get-from i E (noLocal 𝓤 H) ∙ ap (hd′ (noLocal 𝓤 H)) e)) (w .go Kt h);
     }
 
     after : (i : ℕ) {e : Ty × ℕ} {Es : Env 𝓤 H} → from i E ≡ e ∷ Es → from (suc i) E ≡ Es
@@ -254,7 +255,8 @@ module _ {M : Type 1} (𝓤 : URA M) (H : Heap 𝓤) (A : Atoms 𝓤) (W : Given
     module _ (m : ℕ) (σ : Ty) (b : ℕ) (u : Val) (Es : Env 𝓤 H) (em : from m E ≡ (σ, b) ∷ Es) where
       reads-all : (ps : List Par) (xs : List Ty) (i t : ℕ) (bs cs : List ℕ) (vs : List Val) → Typed (tys ps []) vs → from i E ≡ EnvOf 𝓤 H (tys ps xs) bs
           → from t E ≡ EnvOf 𝓤 H (temps ps) cs → (R : Pr) (K : List Val → Pr)
-          → cells ps bs vs ∗ (lent ps cs vs ∗ (cell σ b u ∗ R)) ⊢ K (swapped ps u vs) → cells ps bs vs ∗ (lent ps cs vs ∗ (cell σ b u ∗ R)) ⊢ evalOpds 𝓤 H E (operands ps i m t) K
+          → cells ps bs vs ∗ (lent ps cs vs ∗ (cell σ b u ∗ R)) ⊢ K (swapped ps u vs)
+          → cells ps bs vs ∗ (lent ps cs vs ∗ (cell σ b u ∗ R)) ⊢ evalOpds 𝓤 H E (operands ps i m t) K
       reads-all [] xs i t bs cs vs w e f R K h = h
       reads-all (p ∷ ps) xs i t bs cs [] w e f R K h = absurd w
       reads-all (copied τ ∷ ps) xs i t bs cs (v ∷ vs) w e f R K h =
@@ -345,7 +347,8 @@ module _ {M : Type 1} (𝓤 : URA M) (H : Heap 𝓤) (A : Atoms 𝓤) (W : Given
 
       goes-lends : (ps : List Par) (xs : List Ty) (i t : ℕ) (bs cs : List ℕ) (vs : List Val) → Typed (tys ps []) vs → from i E ≡ EnvOf 𝓤 H (tys ps xs) bs
           → from t E ≡ EnvOf 𝓤 H (temps ps) cs → (X : Pr)
-          → X ∗ (cells ps bs vs ∗ lent ps cs vs) ⊢ Wp 𝓤 H C Λ E rest (post 𝓤 H q) → X ∗ (cells ps bs vs ∗ rooms (temps ps) cs) ⊢ Wp 𝓤 H C Λ E (lends ps i t rest) (post 𝓤 H q)
+          → X ∗ (cells ps bs vs ∗ lent ps cs vs) ⊢ Wp 𝓤 H C Λ E rest (post 𝓤 H q) → X ∗ (cells ps bs vs ∗ rooms (temps ps) cs)
+          ⊢ Wp 𝓤 H C Λ E (lends ps i t rest) (post 𝓤 H q)
       goes-lends [] xs i t bs cs vs w e f X h = h
       goes-lends (p ∷ ps) xs i t bs cs [] w e f X h = absurd w
       goes-lends (copied τ ∷ ps) xs i t bs cs (v ∷ vs) w e f X h =

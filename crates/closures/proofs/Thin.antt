@@ -183,7 +183,8 @@ module _ (xs : List Param) where
             -- what `inner` ensures, the function ensures
             hands-on : (r : R .Denot) → ent 𝓤 (ens′ κs′ (swap κs a c) r) (ens κs a r)
             hands-on r = exE 𝓤 _ (λ ws. via 𝓤 _
-                (mono∗ 𝓤 (subst (λ (P : Fml). ent 𝓤 (sem 𝓤 H A (lastsOf κs′ ss′ ks′ (swap κs a c) ws)) (sem 𝓤 H A P)) (o .lasts-are κs a ws) (id⊢ 𝓤 _)) (o .gives κs a r ws))
+                (mono∗ 𝓤 (subst (λ (P : Fml). ent 𝓤 (sem 𝓤 H A (lastsOf κs′ ss′ ks′ (swap κs a c) ws)) (sem 𝓤 H A P))
+                (o .lasts-are κs a ws) (id⊢ 𝓤 _)) (o .gives κs a r ws))
                 (exI 𝓤 (λ (vs′ : Fins κs ss ks a). sep 𝓤 (sem 𝓤 H A (lastsOf κs ss ks a vs′)) (says κs a r (outs κs ss ks a vs′))) (o .last κs a ws)))
 
             -- as `Pass.antt`'s `Ends` and `Goes`
@@ -196,7 +197,8 @@ module _ (xs : List Param) where
             -- after `inner`
             ends : (u w : Val) → ent 𝓤 (sep 𝓤 (Inner .post (to-inner u) w) (A .lft κ q)) (Ended w)
             ends u w =
-                qed W (later (some (λ (r : R .Denot). (raw (toks 𝓤 A n κs′ qs′) ⊛ ‵ (R .own r (w ∷ []))) ⊛ raw (ens′ κs′ (swap κs a c) r))) ∷ ‵ (flft κ q) ∷ []) {P = Ended w} (
+                qed W (later (some (λ (r : R .Denot). (raw (toks 𝓤 A n κs′ qs′) ⊛ ‵ (R .own r (w ∷ []))) ⊛ raw (ens′ κs′ (swap κs a c) r))) ∷ ‵ (flft κ q)
+                ∷ []) {P = Ended w} (
                 updating ! $ await ! tt $ pick ! (λ r. split ! $ split ! $ move ! (1 ∷ []) $
                 -- [the result; the other tokens; what is ensured; the token]
                 peeks ! R (Is R) (shows 𝓤 H A R) r (w ∷ []) (λ is. at-once ! $ check ! (o .typed r w is) $ updating ! $ at-once ! $

@@ -1,5 +1,5 @@
 -- Marks: row by row each record's arc is marked, and a mark stays. An arc without a mark is closed at no tick, so that its plan alone decides.
-use Prim.Native.Nat.{ℕ, zero, suc, _+_, _<_, _≤_}
+use Prim.Native.Nat.{ℕ, _+_, _<_, _≤_}
 use mathlib.Core.Path.{_≡_, refl, sym, ap, _∙_}
 use mathlib.Core.Bool.{Bool, true, false, cond}
 use mathlib.Core.List.{List, [], _∷_}
@@ -7,9 +7,9 @@ use mathlib.Core.Logic.{⊎-elim}
 use native.Mathlib.Decide.{ℕ-discrete}
 use native.Mathlib.Nat.{eq-or-lt-of-le}
 use native.Mathlib.Omega.{arith}
-use lib.ListN.{length, getD, set, length-map, length-set}
+use lib.ListN.{length, getD, set, length-map, length-set, List·getD-map}
 use lib.Seq.{getD-set-same, getD-set-other}
-use Rattle.model.specs.Closures.{noClosure, closureOf, closuresOf, closed?, withClosures}
+use Rattle.model.specs.Closures.{closureOf, closuresOf, closed?, withClosures}
 use Rattle.model.specs.Limits.{maxArcs}
 use Rattle.model.specs.Flow.{spansOf}
 use Rattle.model.specs.Holds.{arrivalWithHold}
@@ -24,11 +24,6 @@ use Rattle.dijkstra.specs.code.Marks.{Marked}
 -- the arc of row k
 abbrev arcAt : List (List ℕ) → ℕ → ℕ
 arcAt rows k = getD (getD rows k []) 0 0
-
-closure-at : (rows : List (List ℕ)) (k : ℕ) → getD (closuresOf rows) k noClosure ≡ closureOf (getD rows k [])
-closure-at [] k = refl
-closure-at (row ∷ rows) zero = refl
-closure-at (row ∷ rows) (suc k) = closure-at rows k
 
 before-or-same : (i k : ℕ) → i < k + 1 → (i ≡ k → ⊥) → i < k
 before-or-same i k h other = ⊎-elim (λ same. absurd (other (omega arith))) (λ less. omega arith) (eq-or-lt-of-le h)
@@ -65,7 +60,7 @@ none-known rows k marks so-far unknown = record {
 
 pub all-marked : (rows : List (List ℕ)) (k : ℕ) (marks : List Bool) → MarkedSoFar rows k marks → length rows ≤ k → Marked (closuresOf rows) marks
 all-marked rows k marks so-far all i inside few =
-    let at = ap (λ (c : Closure). c .arc) (closure-at rows i) in
+    let at = ap (λ (c : Closure). c .arc) (List·getD-map closureOf rows i []) in
     rw at (so-far .marked i (omega (arith, length-map rows closureOf)) (omega (arith, at)))
 
 -- An arc without a mark is closed at no tick.

@@ -68,7 +68,7 @@ fn drive_arc(
     let to = from + fences.len();
     let metres = lengths[arc];
     let hold = holds[arc] as u32;
-    // This test is all that closures cost where there are none.
+    // Asked first, so that nothing of the closures is left where a caller never has any.
     if closures.len() != 0 {
         if closed[arc] {
             return drive_closed_with_hold(

@@ -10,8 +10,7 @@ use lib.Dec.{eqb}
 use lib.ListN.{length, getD}
 use Rattle.model.specs.Ticks.{never}
 use Rattle.model.specs.Closures.{Closed}
-use Rattle.model.specs.Network.{Network, netOf}
-use Rattle.model.specs.Routes.{closedBy}
+use Rattle.model.specs.Network.{Network, closedBy, netOf}
 use Rattle.model.specs.declared.closure.Closure.{Closure}
 use Rattle.model.specs.Labels.{labelsOf, predecessorsOf, Certified, Lowest}
 use Rattle.model.specs.Walks.{Earliest}

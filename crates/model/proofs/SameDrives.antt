@@ -10,10 +10,10 @@ use Rattle.model.specs.Ticks.{never}
 use Rattle.model.specs.Closures.{Closed}
 use Rattle.model.specs.Walks.{Net}
 use Rattle.model.specs.Labels.{offer, offers, within, labelsOf, attains, firstAttaining, predecessorOf, tabulate, predecessorsOf}
-use Rattle.model.specs.Network.{Network, roadsOf, speedOn, driveOf, netOf}
-use Rattle.model.specs.Routes.{arcsBack, routeOf, closedBy, ClosuresAreUnion}
+use Rattle.model.specs.Network.{Network, closedBy, roadsOf, speedOn, driveOf, netOf}
+use Rattle.model.specs.Routes.{arcsBack, routeOf, ClosuresAreUnion}
 use Rattle.model.specs.declared.closure.Closure.{Closure}
-use Rattle.model.proofs.Holds.{with-hold-is-monotone}
+use Rattle.model.proofs.Holds.{same-arrival}
 use Rattle.model.proofs.Closures.{closed-no-faster}
 
 -- ---- Nets that differ in their drives' names alone
@@ -61,9 +61,11 @@ module _ (N : Network) (closures : List Closure) (alike : (a t : ℕ) → Closed
   same-drive : (a t : ℕ) → driveOf (roadsOf N) a t ≡ driveOf (roadsOf (closedBy N closures)) a t
   unfolding driveOf speedOn
   same-drive a t =
+      same-arrival _ _ _ _ t
+      (λ u.
       le-antisymm
-      (with-hold-is-monotone _ _ _ _ _ _ t t (le-refl t) (le-refl _) (le-refl _) (λ u. closed-no-faster closures (N .closures) a u _ _ (alike a u .0) (le-refl _)))
-      (with-hold-is-monotone _ _ _ _ _ _ t t (le-refl t) (le-refl _) (le-refl _) (λ u. closed-no-faster (N .closures) closures a u _ _ (alike a u .1) (le-refl _)))
+      (closed-no-faster (N .closures) closures a u _ _ (alike a u .1) (le-refl _))
+      (closed-no-faster closures (N .closures) a u _ _ (alike a u .0) (le-refl _)))
 
 pub closures-are-union : ClosuresAreUnion
 closures-are-union N closures alike source departure =

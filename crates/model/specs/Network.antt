@@ -37,6 +37,10 @@ network junctions fences tails heads lengths holds speeds closures = record {
   closures = closures;
 }
 
+-- The network with another list of closures.
+abbrev pub closedBy : Network → List Closure → Network
+closedBy N closures = network (N .junctions) (N .fences) (N .tails) (N .heads) (N .lengths) (N .holds) (N .speeds) closures
+
 -- "The arc count is the length of the tails."
 abbrev pub arcs : Network → ℕ
 arcs N = length (N .tails)

@@ -10,7 +10,7 @@ use Rattle.model.specs.Ticks.{last, day, never}
 use Rattle.model.specs.Walks.{Net, Sound, Arrives}
 use Rattle.model.specs.Labels.{noArc, labelsOf, predecessorsOf}
 use Rattle.model.specs.Closures.{Closed}
-use Rattle.model.specs.Network.{Network, network, Accepted, netOf}
+use Rattle.model.specs.Network.{Network, closedBy, Accepted, netOf}
 use Rattle.model.specs.Demands.{label}
 use Rattle.model.specs.declared.closure.Closure.{Closure}
 
@@ -49,10 +49,6 @@ abbrev pub DrivenIsWalk : Type 0
 DrivenIsWalk = (N : Net) (source departure : ℕ) (arcs : List ℕ) (j t : ℕ) → Driven N source departure arcs j t → Arrives N source departure j t
 
 -- ---- Other closures
-
--- The network with another list of closures.
-abbrev pub closedBy : Network → List Closure → Network
-closedBy N closures = network (N .junctions) (N .fences) (N .tails) (N .heads) (N .lengths) (N .holds) (N .speeds) closures
 
 -- Closed is the union of the records' ticks: two lists that close the same ticks of the same arcs give the same labels, predecessors and routes.
 abbrev pub ClosuresAreUnion : Type 0

@@ -1,19 +1,17 @@
 -- Rows that stand for a list of closures give the list's answer. Either they are its records, or both are too many: then each is refused alike, by
 -- the network's own rules or by 36, whatever the records are.
 use Prim.Native.Nat.{ℕ, _<_}
-use mathlib.Core.Path.{_≡_, refl, subst}
+use mathlib.Core.Path.{_≡_, refl, ap, _∙_}
 use mathlib.Core.Bool.{Bool, true, false, not, cond}
 use mathlib.Core.List.{List, [], _∷_, _++_}
-use mathlib.Core.Option.{Option}
 use native.Mathlib.Omega.{arith}
 use lib.Dec.{ltb}
 use lib.ListN.{length, length-map}
 use borrow.Author.Tests.{lt-ltb}
 use Rattle.model.specs.Closures.{maxClosures, closureKeeps, closuresOf, closureOf}
-use Rattle.model.specs.Network.{Network, arcs}
+use Rattle.model.specs.Network.{Network, closedBy, arcs}
 use Rattle.model.specs.NetworkRules.{networkRules}
-use Rattle.model.specs.Rules.{Outcome, refused, Rule, _if_, firstBroken, every}
-use Rattle.model.specs.Routes.{closedBy}
+use Rattle.model.specs.Rules.{refused, Rule, _if_, firstBroken, every}
 use Rattle.model.specs.declared.closure.Closure.{Closure}
 use Rattle.model.proofs.Rules.{refused-before}
 use Rattle.checking.specs.ClosedNetwork.{closedNetworkRules, closedNetworkCheck}
@@ -60,26 +58,25 @@ module _ (N : Network) where
 
 -- ---- The operations
 
--- The rows stand for each list that could have been read.
-abbrev Stand : (List Closure → Type 0) → List (List ℕ) → Type 0
-Stand Read rows = (xs : List Closure) → Read xs → StandFor xs rows
+-- An operation ends in its answer and two things more, each by the closures. For lists that are too long all three are the same.
+pub record SameTooLong {A B C : Type 0} (answer : List Closure → A) (first : List Closure → B) (second : List Closure → C) : Type 0 where
+  pub same : (some others : List Closure) → maxClosures < length some → maxClosures < length others →
+      (answer some ≡ answer others) × ((first some ≡ first others) × (second some ≡ second others))
 
-abbrev OfRead : (List Closure → Type 0) → (List Closure → Type 0) → Type 0
-OfRead Read E = (xs : List Closure) → Read xs → E xs
-
--- An operation ends in three equations. Where they hold alike for all lists that are too long, those for the rows hold for each such list.
-module _ (P Q S : List Closure → Type 0) where
-  abbrev Ends : List Closure → Type 0
-  Ends closures = P closures × (Q closures × S closures)
-
-  alike : ((some others : List Closure) → maxClosures < length some → maxClosures < length others → Ends some → Ends others) →
-      {Read : List Closure → Type 0} {rows : List (List ℕ)} → Stand Read rows → Ends (closuresOf rows) → OfRead Read P × (OfRead Read Q × OfRead Read S)
-  alike overlong-ends {Read} {rows} stand ends =
-      ((λ xs read. each (stand xs read) .0), ((λ xs read. each (stand xs read) .1 .0), (λ xs read. each (stand xs read) .1 .1)))
-    where
-      each : {closures : List Closure} → StandFor closures rows → Ends closures
-      each (all same) = subst Ends same ends
-      each {closures} (too-many many many-rows) = overlong-ends (closuresOf rows) closures (omega (arith, many-rows, length-map rows closureOf)) many ends
+-- So what holds for the rows holds for each list that could have been read, for which they stand.
+pub alike : {A B C : Type 0} {answer : List Closure → A} {first : List Closure → B} {second : List Closure → C} → SameTooLong answer first second →
+    {Read : List Closure → Type 0} {rows : List (List ℕ)} → ((xs : List Closure) → Read xs → StandFor xs rows) → {a : A} {b : B} {c : C} →
+    (a ≡ answer (closuresOf rows)) × ((b ≡ first (closuresOf rows)) × (c ≡ second (closuresOf rows))) →
+    ((xs : List Closure) → Read xs → a ≡ answer xs) × (((xs : List Closure) → Read xs → b ≡ first xs) × ((xs : List Closure) → Read xs → c ≡ second xs))
+alike {answer = answer} {first} {second} too-long {rows = rows} stand ends = (
+  (λ xs read. ends .0 ∙ each (stand xs read) .0),
+  ((λ xs read. ends .1 .0 ∙ each (stand xs read) .1 .0), (λ xs read. ends .1 .1 ∙ each (stand xs read) .1 .1)),
+)
+  where
+    each : {xs : List Closure} → StandFor xs rows →
+        (answer (closuresOf rows) ≡ answer xs) × ((first (closuresOf rows) ≡ first xs) × (second (closuresOf rows) ≡ second xs))
+    each (all same) = (ap answer same, (ap first same, ap second same))
+    each {xs} (too-many many many-rows) = too-long .same (closuresOf rows) xs (omega (arith, many-rows, length-map rows closureOf)) many
 
 module _ (N : Network) (source departure : ℕ) (labels predecessors : List ℕ) where
   labels-overlong : (closures : List Closure) → maxClosures < length closures → labelsAnswer (closedBy N closures) source departure labels predecessors ≡ refused (number N)
@@ -89,21 +86,10 @@ module _ (N : Network) (source departure : ℕ) (labels predecessors : List ℕ)
       refused-before {Reply = ℕ} (questionRules M source departure) (bufferRules M labels predecessors) 0 tt (number N)
       (overlong-before N closures many (startRules M source departure) 0)
 
-  module _ (outcome : Outcome (Unit {0})) (labels′ : List ℕ) (predecessors′ : List ℕ) where
-    abbrev labelsAnswers : List Closure → Type 0
-    labelsAnswers closures = outcome ≡ labelsAnswer (closedBy N closures) source departure labels predecessors
-
-    abbrev labelsFirst : List Closure → Type 0
-    labelsFirst closures = labels′ ≡ labelsAfter (closedBy N closures) source departure labels predecessors
-
-    abbrev labelsSecond : List Closure → Type 0
-    labelsSecond closures = predecessors′ ≡ predecessorsAfter (closedBy N closures) source departure labels predecessors
-
-    pub labels-alike : {Read : List Closure → Type 0} {rows : List (List ℕ)} → Stand Read rows → Ends labelsAnswers labelsFirst labelsSecond (closuresOf rows) →
-        OfRead Read labelsAnswers × (OfRead Read labelsFirst × OfRead Read labelsSecond)
-    labels-alike =
-        alike labelsAnswers labelsFirst labelsSecond
-        (λ some others many more ends. rw (labels-overlong others more) (rw (labels-overlong some many) at ends))
+  pub labels-too-long : SameTooLong (λ closures. labelsAnswer (closedBy N closures) source departure labels predecessors)
+      (λ closures. labelsAfter (closedBy N closures) source departure labels predecessors)
+      (λ closures. predecessorsAfter (closedBy N closures) source departure labels predecessors)
+  labels-too-long = record { same = λ some others many more. rw (labels-overlong some many, labels-overlong others more) (refl, (refl, refl)) }
 
 module _ (N : Network) (source departure destination : ℕ) (arcs : List ℕ) where
   route-overlong : (closures : List Closure) → maxClosures < length closures → routeAnswer (closedBy N closures) source departure destination arcs ≡ refused (number N)
@@ -113,21 +99,9 @@ module _ (N : Network) (source departure destination : ℕ) (arcs : List ℕ) wh
       refused-before {Reply = ℕ} (questionRules M source departure) (destinationRules M destination ++ foundRules M source departure destination arcs) 0 _ (number N)
       (overlong-before N closures many (startRules M source departure) 0)
 
-  module _ (outcome : Outcome ℕ) (arrival : Option ℕ) (arcs′ : List ℕ) where
-    abbrev routeAnswers : List Closure → Type 0
-    routeAnswers closures = outcome ≡ routeAnswer (closedBy N closures) source departure destination arcs
-
-    abbrev routeFirst : List Closure → Type 0
-    routeFirst closures = arrival ≡ routeArrival (closedBy N closures) source departure destination arcs
-
-    abbrev routeSecond : List Closure → Type 0
-    routeSecond closures = arcs′ ≡ arcsAfter (closedBy N closures) source departure destination arcs
-
-    pub route-alike : {Read : List Closure → Type 0} {rows : List (List ℕ)} → Stand Read rows → Ends routeAnswers routeFirst routeSecond (closuresOf rows) →
-        OfRead Read routeAnswers × (OfRead Read routeFirst × OfRead Read routeSecond)
-    route-alike =
-        alike routeAnswers routeFirst routeSecond
-        (λ some others many more ends. rw (route-overlong others more) (rw (route-overlong some many) at ends))
+  pub route-too-long : SameTooLong (λ closures. routeAnswer (closedBy N closures) source departure destination arcs)
+      (λ closures. routeArrival (closedBy N closures) source departure destination arcs) (λ closures. arcsAfter (closedBy N closures) source departure destination arcs)
+  route-too-long = record { same = λ some others many more. rw (route-overlong some many, route-overlong others more) (refl, (refl, refl)) }
 
 module _ (N : Network) (source : ℕ) (departures labels figures : List ℕ) where
   sheet-overlong : (closures : List Closure) → maxClosures < length closures → sheetAnswer (closedBy N closures) source departures labels figures ≡ refused (number N)
@@ -137,18 +111,6 @@ module _ (N : Network) (source : ℕ) (departures labels figures : List ℕ) whe
       refused-before {Reply = ℕ} (closedNetworkRules M ++ shiftRules M source departures) (sheetBufferRules M departures labels figures) 0 tt (number N)
       (overlong-before N closures many (shiftRules M source departures) 0)
 
-  module _ (outcome : Outcome (Unit {0})) (labels′ : List ℕ) (figures′ : List ℕ) where
-    abbrev sheetAnswers : List Closure → Type 0
-    sheetAnswers closures = outcome ≡ sheetAnswer (closedBy N closures) source departures labels figures
-
-    abbrev sheetFirst : List Closure → Type 0
-    sheetFirst closures = labels′ ≡ sheetLabelsAfter (closedBy N closures) source departures labels figures
-
-    abbrev sheetSecond : List Closure → Type 0
-    sheetSecond closures = figures′ ≡ sheetFiguresAfter (closedBy N closures) source departures labels figures
-
-    pub sheet-alike : {Read : List Closure → Type 0} {rows : List (List ℕ)} → Stand Read rows → Ends sheetAnswers sheetFirst sheetSecond (closuresOf rows) →
-        OfRead Read sheetAnswers × (OfRead Read sheetFirst × OfRead Read sheetSecond)
-    sheet-alike =
-        alike sheetAnswers sheetFirst sheetSecond
-        (λ some others many more ends. rw (sheet-overlong others more) (rw (sheet-overlong some many) at ends))
+  pub sheet-too-long : SameTooLong (λ closures. sheetAnswer (closedBy N closures) source departures labels figures)
+      (λ closures. sheetLabelsAfter (closedBy N closures) source departures labels figures) (λ closures. sheetFiguresAfter (closedBy N closures) source departures labels figures)
+  sheet-too-long = record { same = λ some others many more. rw (sheet-overlong some many, sheet-overlong others more) (refl, (refl, refl)) }

@@ -217,17 +217,20 @@ module _ {M : Type 1} (𝓤 : URA M) (H : Heap 𝓤) (A : Atoms 𝓤) (W : Given
 
     module _ (q′ : Share) (l₀ l₁ l₂ l₃ l₄ l₅ l₆ l₇ l₈ l₉ l₁₀ l₁₁ l₁₂ l₁₃ : ℕ) where
       abbrev En : Env 𝓤 H
-      En = (S′.mir, l₀) ∷ (slice, l₁) ∷ (word, l₂) ∷ (arr, l₃) ∷ (word, l₄) ∷ (word, l₅) ∷ (arr, l₆) ∷ (tyBool, l₇) ∷ (word, l₈) ∷ (tyPtr, l₉) ∷ (T′.mir, l₁₀)
+      En = (S′.mir, l₀) ∷ (slice, l₁) ∷ (word, l₂) ∷ (arr, l₃) ∷ (word, l₄) ∷ (word, l₅) ∷ (arr, l₆) ∷ (tyBool, l₇) ∷ (word, l₈) ∷ (tyPtr, l₉)
+          ∷ (T′.mir, l₁₀)
           ∷ (word, l₁₁) ∷ (tyPtr, l₁₂) ∷ (tyPtr, l₁₃) ∷ []
 
       -- at the head of a turn: the local array holds xs, and i elements are read
       abbrev At : ℕ → List Closure → List (Item 𝓤)
       At i xs = ‵ (fat fullShare word l₄ 0 (vint w64 i)) ∷ ‵ (row T.the-row fullShare xs l₃ 0) ∷ ‵ (row T.the-row q′ ys b o) ∷ ‵ (fat fullShare word l₂ 0 (vint w64 m))
           ∷ ‵ (fat fullShare slice l₁ 0 v)
-          ∷ ‵ (froom tyBool l₇ 0) ∷ ‵ (froom word l₈ 0) ∷ ‵ (froom tyPtr l₉ 0) ∷ ‵ (froom T′.mir l₁₀ 0) ∷ ‵ (froom word l₁₁ 0) ∷ ‵ (froom tyPtr l₁₂ 0) ∷ ‵ (froom tyPtr l₁₃ 0)
+          ∷ ‵ (froom tyBool l₇ 0) ∷ ‵ (froom word l₈ 0) ∷ ‵ (froom tyPtr l₉ 0) ∷ ‵ (froom T′.mir l₁₀ 0) ∷ ‵ (froom word l₁₁ 0)
+          ∷ ‵ (froom tyPtr l₁₂ 0) ∷ ‵ (froom tyPtr l₁₃ 0)
           ∷ ‵ (froom S′.mir l₀ 0) ∷ ‵ (froom word l₅ 0) ∷ ‵ (froom arr l₆ 0) ∷ ‵ (fobor κ q (arr-parts (shares T.the-row) n .part q′ ys b o)) ∷ ‵ Own
           ∷ ‵ (fdies S′.mir l₀) ∷ ‵ (fdies slice l₁) ∷ ‵ (fdies word l₂) ∷ ‵ (fdies arr l₃) ∷ ‵ (fdies word l₄) ∷ ‵ (fdies word l₅) ∷ ‵ (fdies arr l₆)
-          ∷ ‵ (fdies tyBool l₇) ∷ ‵ (fdies word l₈) ∷ ‵ (fdies tyPtr l₉) ∷ ‵ (fdies T′.mir l₁₀) ∷ ‵ (fdies word l₁₁) ∷ ‵ (fdies tyPtr l₁₂) ∷ ‵ (fdies tyPtr l₁₃) ∷ []
+          ∷ ‵ (fdies tyBool l₇) ∷ ‵ (fdies word l₈) ∷ ‵ (fdies tyPtr l₉) ∷ ‵ (fdies T′.mir l₁₀) ∷ ‵ (fdies word l₁₁) ∷ ‵ (fdies tyPtr l₁₂)
+          ∷ ‵ (fdies tyPtr l₁₃) ∷ []
 
       -- t elements are left, and with them xs becomes the whole
       abbrev Facts : ℕ → ℕ → List Closure → Type 0
@@ -400,7 +403,8 @@ module _ {M : Type 1} (𝓤 : URA M) (H : Heap 𝓤) (A : Atoms 𝓤) (W : Given
         looks-slice ! tt T.the-row (Is T.the-row) (shows 𝓤 H A T.the-row) (LL.vals T.the-type T′.the-laws) (LL.tells T.the-type T′.the-laws)
         (LL.copy T.the-type T′.the-copy 𝓤 H A W) ys b o (λ q′.
         -- [the slice's row; what shuts; the fractured borrow; the list's row; _13; …; down to _0; …; what the slice owns]
-        keep ! (22 ∷ 3 ∷ 0 ∷ 25 ∷ 27 ∷ 16 ∷ 14 ∷ 12 ∷ 10 ∷ 8 ∷ 6 ∷ 4 ∷ 29 ∷ 20 ∷ 18 ∷ 1 ∷ 31 ∷ 30 ∷ 28 ∷ 26 ∷ 24 ∷ 23 ∷ 21 ∷ 19 ∷ 17 ∷ 15 ∷ 13 ∷ 11 ∷ 9 ∷ 7 ∷ 5 ∷ []) $
+        keep ! (22 ∷ 3 ∷ 0 ∷ 25 ∷ 27 ∷ 16 ∷ 14 ∷ 12 ∷ 10 ∷ 8 ∷ 6 ∷ 4 ∷ 29 ∷ 20 ∷ 18 ∷ 1 ∷ 31 ∷ 30 ∷ 28 ∷ 26 ∷ 24 ∷ 23 ∷ 21 ∷ 19 ∷ 17 ∷ 15
+        ∷ 13 ∷ 11 ∷ 9 ∷ 7 ∷ 5 ∷ []) $
         loops q′ l₀ l₁ l₂ l₃ l₄ l₅ l₆ l₇ l₈ l₉ l₁₀ l₁₁ l₁₂ l₁₃ r len e))))))))))))))))))))))))
 
 module _ {M : Type 1} (𝓤 : URA M) (H : Heap 𝓤) (A : Atoms 𝓤) (W : Given 𝓤 H A) (mem : Memory → SProp 𝓤) (run : Routine → Fun 𝓤) (𝓣 : Tables 𝓤 H)

@@ -7,7 +7,7 @@ use lib.Seq.{length-take-le}
 use denote.Ref.{now}
 use Rattle.model.specs.Network.{Network}
 use Rattle.model.specs.Lent.{networkIn}
-use Rattle.operations.proofs.Overlong.{labels-alike}
+use Rattle.operations.proofs.Overlong.{alike, labels-too-long}
 use Rattle.operations.proofs.labels.labels_read.Statement.{statement}
 use Rattle.operations.proofs.labels.labels_read.Tie as tie
 
@@ -31,7 +31,7 @@ returns c =
     let counted : tie.After-row-count = search in
     let called : tie.After-labels = search in
     let args = s .args in
-    labels-alike (N s) (args .source) (args .departure .number) (now (args .labels)) (now (args .predecessors)) _ _ _
+    alike (labels-too-long (N s) (args .source) (args .departure .number) (now (args .labels)) (now (args .predecessors)))
     (rw (← counted .row-count .ensures .0) at (made .rows-of .ensures .1)) (called .labels .ensures)
 
 pub labels-read-spec : {M : Type 1} → statement M

@@ -7,7 +7,7 @@ use lib.Seq.{length-take-le}
 use denote.Ref.{now}
 use Rattle.model.specs.Network.{Network}
 use Rattle.model.specs.Lent.{networkIn}
-use Rattle.operations.proofs.Overlong.{route-alike}
+use Rattle.operations.proofs.Overlong.{alike, route-too-long}
 use Rattle.operations.proofs.route.route_read.Statement.{statement}
 use Rattle.operations.proofs.route.route_read.Tie as tie
 
@@ -31,7 +31,7 @@ returns c =
     let counted : tie.After-row-count = search in
     let called : tie.After-route = search in
     let args = s .args in
-    route-alike (N s) (args .source) (args .departure .number) (args .destination) (now (args .arcs)) _ _ _
+    alike (route-too-long (N s) (args .source) (args .departure .number) (args .destination) (now (args .arcs)))
     (rw (← counted .row-count .ensures .0) at (made .rows-of .ensures .1)) (called .route .ensures)
 
 pub route-read-spec : {M : Type 1} → statement M

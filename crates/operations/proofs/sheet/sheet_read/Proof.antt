@@ -7,7 +7,7 @@ use lib.Seq.{length-take-le}
 use denote.Ref.{now}
 use Rattle.model.specs.Network.{Network}
 use Rattle.model.specs.Lent.{networkIn}
-use Rattle.operations.proofs.Overlong.{sheet-alike}
+use Rattle.operations.proofs.Overlong.{alike, sheet-too-long}
 use Rattle.operations.proofs.sheet.sheet_read.Statement.{statement}
 use Rattle.operations.proofs.sheet.sheet_read.Tie as tie
 
@@ -31,7 +31,7 @@ returns c =
     let counted : tie.After-row-count = search in
     let called : tie.After-sheet = search in
     let args = s .args in
-    sheet-alike (N s) (args .source) (now (args .departures)) (now (args .labels)) (now (args .figures)) _ _ _
+    alike (sheet-too-long (N s) (args .source) (now (args .departures)) (now (args .labels)) (now (args .figures)))
     (rw (← counted .row-count .ensures .0) at (made .rows-of .ensures .1)) (called .sheet .ensures)
 
 pub sheet-read-spec : {M : Type 1} → statement M

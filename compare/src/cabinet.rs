@@ -53,6 +53,7 @@ mod exports {
             speed_count: usize,
             closures: *const Closure,
             closure_count: usize,
+            asker: u32,
             source: u32,
             departure: u32,
             labels: *mut u32,
@@ -77,6 +78,7 @@ mod exports {
             speed_count: usize,
             closures: *const Closure,
             closure_count: usize,
+            asker: u32,
             source: u32,
             departure: u32,
             destination: u32,
@@ -100,6 +102,7 @@ mod exports {
             speed_count: usize,
             closures: *const Closure,
             closure_count: usize,
+            asker: u32,
             source: u32,
             departures: *const u32,
             departure_count: usize,
@@ -214,6 +217,7 @@ pub fn arc_arrival(
 pub fn labels(
     network: &Network,
     closures: &[Closure],
+    asker: u32,
     source: u32,
     departure: u32,
     labels: &mut [u32],
@@ -227,6 +231,7 @@ pub fn labels(
             network,
             closures.as_ptr(),
             closures.len(),
+            asker,
             source,
             departure,
             labels.as_mut_ptr(),
@@ -241,6 +246,7 @@ pub fn labels(
 pub fn route(
     network: &Network,
     closures: &[Closure],
+    asker: u32,
     source: u32,
     departure: u32,
     destination: u32,
@@ -254,6 +260,7 @@ pub fn route(
             network,
             closures.as_ptr(),
             closures.len(),
+            asker,
             source,
             departure,
             destination,
@@ -267,6 +274,7 @@ pub fn route(
 pub fn sheet(
     network: &Network,
     closures: &[Closure],
+    asker: u32,
     source: u32,
     departures: &[u32],
     labels: &mut [u32],
@@ -280,6 +288,7 @@ pub fn sheet(
             network,
             closures.as_ptr(),
             closures.len(),
+            asker,
             source,
             departures.as_ptr(),
             departures.len(),
@@ -410,12 +419,13 @@ mod tests {
     use super::*;
 
     #[test]
-    fn lends_records_of_three_numbers() {
-        assert_eq!(size_of::<Closure>(), 12);
+    fn lends_records_of_four_numbers() {
+        assert_eq!(size_of::<Closure>(), 16);
         assert_eq!(align_of::<Closure>(), 4);
         assert_eq!(offset_of!(Closure, arc), 0);
         assert_eq!(offset_of!(Closure, first), 4);
         assert_eq!(offset_of!(Closure, end), 8);
+        assert_eq!(offset_of!(Closure, party), 12);
     }
 
     #[test]

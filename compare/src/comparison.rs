@@ -27,7 +27,7 @@ pub struct Check {
     pub refuses: &'static [RangeInclusive<u32>],
 }
 
-pub const CHECKS: [&Check; 41] = [
+pub const CHECKS: [&Check; 44] = [
     &cases::NETWORK_CHECK,
     &cases::ARC_ARRIVAL,
     &cases::LABELS,
@@ -64,6 +64,9 @@ pub const CHECKS: [&Check; 41] = [
     &properties::CLOSED_AT_START,
     &properties::CLOSED_THROUGHOUT,
     &properties::CLOSURE_LIST,
+    &properties::OTHERS_CLOSURES,
+    &properties::PARTIES_EXCHANGED,
+    &properties::OWN_OR_BOTH,
     &properties::CONVERTED_AS_WRITTEN,
     &properties::THERE_AND_BACK,
     &properties::CONVERTED_TOWN,
@@ -75,8 +78,8 @@ pub const CHECKS: [&Check; 41] = [
 #[derive(Clone, Copy, Debug, PartialEq, Eq, PartialOrd, Ord)]
 pub enum Outcome {
     Answered,
-    /// The arc cannot be driven, there is no name, or midnight, the holds or the closures
-    /// make no difference.
+    /// The arc cannot be driven, there is no name, or midnight, the holds, the closures or
+    /// their parties make no difference.
     Nothing,
     Refused(Refusal),
 }

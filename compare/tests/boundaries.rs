@@ -1,5 +1,5 @@
 //! The programs' size limit, midnight and the last tick, an arc's intervals, holds,
-//! closures, a sheet's list and buffers, and towns of fixed size.
+//! closures and their parties, a sheet's list and buffers, and towns of fixed size.
 
 #[path = "boundaries/closures.rs"]
 mod closures;
@@ -7,6 +7,8 @@ mod closures;
 mod holds;
 #[path = "boundaries/intervals.rs"]
 mod intervals;
+#[path = "boundaries/parties.rs"]
+mod parties;
 
 use compare::cabinet;
 use compare::comparison::answers::{self, TableLengths};
@@ -15,7 +17,7 @@ use compare::comparison::{Difference, Outcome};
 use compare::inputs::OwnedNetwork;
 use compare::inputs::networks::LoneArc;
 use compare::inputs::texts::{FORMS, pad, question_line, town_text};
-use compare::inputs::towns::{DEPARTURE, EVENING, SOURCE, Town, departures};
+use compare::inputs::towns::{ASKER, DEPARTURE, EVENING, SOURCE, Town, departures};
 use compare::reference::limits::{DAY, MAX_TEXT, NO_ARC, REFUSED, UNREACHED};
 use compare::reference::{Closure, Form, Refusal};
 
@@ -105,6 +107,7 @@ fn last_tick() {
         let reply = cabinet::labels(
             &network.lent(),
             &[],
+            ASKER,
             0,
             863_999,
             &mut labels,
@@ -119,7 +122,7 @@ fn last_tick() {
             let answer = cabinet::host_question(&text, 0, 863_999, 2);
             assert_eq!(answer, expected[2].min(unreached));
         }
-        let route = cabinet::route(&network.lent(), &[], 0, 863_999, 2, &mut [0; 2]);
+        let route = cabinet::route(&network.lent(), &[], ASKER, 0, 863_999, 2, &mut [0; 2]);
         assert_eq!(route.is_ok(), expected[2] != UNREACHED);
     }
 }
@@ -244,7 +247,7 @@ fn walk_across_midnight() {
     let after = (864_000..).step_by(2);
     let expected: Vec<u32> = before.chain(after).take(200).collect();
     assert_eq!(labels(&network, 863_900).0[..], expected);
-    assert_answered([answers::route(&network, &[], (0, 863_900), 199, 199)]);
+    assert_answered([answers::route(&network, &[], ASKER, (0, 863_900), 199, 199)]);
 }
 
 #[test]
@@ -278,14 +281,21 @@ fn sheet_number(
     departures: &[u32],
     buffers: (usize, usize),
 ) -> u32 {
-    number(answers::sheet(network, &[], source, departures, buffers))
+    number(answers::sheet(
+        network,
+        &[],
+        ASKER,
+        source,
+        departures,
+        buffers,
+    ))
 }
 
 /// The numbers of Labels, Route and Sheet from 9 on, each alone and with all later ones,
 /// on a town of ten junctions that is refused with the number before them, or with none.
-fn assert_numbers_after(network: &OwnedNetwork, closures: &[Closure], before: u32) {
+fn assert_numbers_after(network: &OwnedNetwork, closures: &[Closure], asker: u32, before: u32) {
     let expect = |number| if before == 0 { number } else { before };
-    let labels = |start, buffers| number(answers::labels(network, closures, start, buffers));
+    let labels = |start, buffers| number(answers::labels(network, closures, asker, start, buffers));
     assert_eq!(labels((9, 0), (10, 10)), before);
     assert_eq!(labels((10, 0), (10, 10)), expect(9));
     assert_eq!(labels((10, 864_000), (9, 11)), expect(9));
@@ -295,7 +305,14 @@ fn assert_numbers_after(network: &OwnedNetwork, closures: &[Closure], before: u3
     assert_eq!(labels((9, 0), (10, 11)), expect(11));
 
     let route = |start, destination, list| {
-        number(answers::route(network, closures, start, destination, list))
+        number(answers::route(
+            network,
+            closures,
+            asker,
+            start,
+            destination,
+            list,
+        ))
     };
     assert_eq!(route((9, 0), 0, 10), before);
     assert_eq!(route((10, 0), 0, 10), expect(9));
@@ -306,7 +323,7 @@ fn assert_numbers_after(network: &OwnedNetwork, closures: &[Closure], before: u3
 
     let sheet = |source, departures: &[u32], buffers| {
         number(answers::sheet(
-            network, closures, source, departures, buffers,
+            network, closures, asker, source, departures, buffers,
         ))
     };
     assert_eq!(sheet(9, &[0], (10, 40)), before);
@@ -407,6 +424,7 @@ fn longest_journeys() {
         let reply = cabinet::sheet(
             &network.lent(),
             &[],
+            ASKER,
             0,
             &departures,
             &mut labels,
@@ -422,6 +440,7 @@ fn longest_journeys() {
         assert_answered([answers::sheet(
             &network,
             &[],
+            ASKER,
             0,
             &departures,
             (96 * 200, 4 * 200),
@@ -455,12 +474,14 @@ fn assert_network_answered(town: &Town) {
     assert_answered([answers::network_check(network)]);
     for start in [(SOURCE, DEPARTURE), (SOURCE, EVENING)] {
         assert_answered([
-            answers::labels(network, &[], start, (junctions, junctions)),
-            answers::route(network, &[], start, town.destination(), junctions),
+            answers::labels(network, &[], ASKER, start, (junctions, junctions)),
+            answers::route(network, &[], ASKER, start, town.destination(), junctions),
         ]);
     }
     let buffers = (96 * junctions, 4 * junctions);
-    assert_answered([answers::sheet(network, &[], SOURCE, &departures(), buffers)]);
+    let departures = departures();
+    let sheet = answers::sheet(network, &[], ASKER, SOURCE, &departures, buffers);
+    assert_answered([sheet]);
 }
 
 fn assert_text_answered(town: &Town, form: Form) {
@@ -490,6 +511,7 @@ fn evenings_in_towns_of_fixed_size() {
         let reply = cabinet::labels(
             &network,
             &[],
+            ASKER,
             SOURCE,
             EVENING,
             &mut labels,
@@ -506,19 +528,21 @@ fn evenings_in_towns_of_fixed_size() {
 
 /// Labels and predecessors from junction 0, on which both agree.
 fn labels(network: &OwnedNetwork, departure: u32) -> (Vec<u32>, Vec<u16>) {
-    closed_labels(network, &[], departure)
+    closed_labels(network, &[], ASKER, departure)
 }
 
-/// The same with closures.
+/// The same with closures, for one who asks.
 fn closed_labels(
     network: &OwnedNetwork,
     closures: &[Closure],
+    asker: u32,
     departure: u32,
 ) -> (Vec<u32>, Vec<u16>) {
     let junctions = network.junctions as usize;
     assert_answered([answers::labels(
         network,
         closures,
+        asker,
         (0, departure),
         (junctions, junctions),
     )]);
@@ -527,6 +551,7 @@ fn closed_labels(
     let reply = cabinet::labels(
         &network.lent(),
         closures,
+        asker,
         0,
         departure,
         &mut labels,

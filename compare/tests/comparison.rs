@@ -195,6 +195,21 @@ fn closure_list() {
 }
 
 #[test]
+fn others_closures() {
+    run(&properties::OTHERS_CLOSURES);
+}
+
+#[test]
+fn parties_exchanged() {
+    run(&properties::PARTIES_EXCHANGED);
+}
+
+#[test]
+fn own_or_both() {
+    run(&properties::OWN_OR_BOTH);
+}
+
+#[test]
 fn converted_as_written() {
     run(&properties::CONVERTED_AS_WRITTEN);
 }

@@ -5,7 +5,7 @@
 use compare::comparison::program::{ARRIVALS, Run, SHEET, TO_NEW, TO_OLD};
 use compare::inputs::examples::{HELD_TOWN, HELD_TOWN_TEXT, TABLE_1, TOWN, TOWN_TEXT};
 use compare::operations::{CABINET, Converter, Operations, REFERENCE};
-use compare::reference::limits::{NO_ARC, REFUSED};
+use compare::reference::limits::{BOTH_PARTIES, BRIGADE, DEPOT, NO_ARC, REFUSED};
 use compare::reference::{Arrival, Closure, Counts, LoadRefusal, Network, Refusal};
 
 const BOTH: [Operations; 2] = [CABINET, REFERENCE];
@@ -33,7 +33,7 @@ fn labels(
     network: &Network,
     departure: u32,
 ) -> Result<(Vec<u32>, Vec<u16>), Refusal> {
-    closed_labels(operations, network, &[], departure)
+    closed_labels(operations, network, &[], BRIGADE, departure)
 }
 
 /// The same with closures.
@@ -41,12 +41,13 @@ fn closed_labels(
     operations: &Operations,
     network: &Network,
     closures: &[Closure],
+    asker: u32,
     departure: u32,
 ) -> Result<(Vec<u32>, Vec<u16>), Refusal> {
     let mut labels = vec![7; network.junctions as usize];
     let mut predecessors = vec![7; network.junctions as usize];
     let buffers = (&mut labels[..], &mut predecessors[..]);
-    (operations.labels)(network, closures, 0, departure, buffers.0, buffers.1)?;
+    (operations.labels)(network, closures, asker, 0, departure, buffers.0, buffers.1)?;
     Ok((labels, predecessors))
 }
 
@@ -247,7 +248,7 @@ fn labels_across_midnight() {
             let expected = (ticks.to_vec(), vec![NO_ARC, 0, 1]);
             assert_eq!(labels(&operations, &network, departure), Ok(expected));
             let mut arcs = [7; 3];
-            let count = (operations.route)(&network, &[], 0, departure, 2, &mut arcs);
+            let count = (operations.route)(&network, &[], BRIGADE, 0, departure, 2, &mut arcs);
             assert_eq!((count, arcs), (Ok(2), [0, 1, 7]));
         }
     }
@@ -271,7 +272,16 @@ fn the_town_at_midnight() {
         let departures = [863_950, 40, 863_940, 863_999];
         let mut rows = [7; 12];
         let mut figures = [7; 12];
-        let reply = (operations.sheet)(&NIGHT_TOWN, &[], 0, &departures, &mut rows, &mut figures);
+        let buffers = (&mut rows[..], &mut figures[..]);
+        let reply = (operations.sheet)(
+            &NIGHT_TOWN,
+            &[],
+            DEPOT,
+            0,
+            &departures,
+            buffers.0,
+            buffers.1,
+        );
         assert_eq!(reply, Ok(()));
         assert_eq!(rows[..3], [863_950, 864_000, 864_040]);
         assert_eq!(rows[3..6], [40, 140, 190]);
@@ -342,7 +352,7 @@ fn the_town_with_holds() {
 
 #[test]
 fn the_town_with_closures() {
-    let closure = |arc, first, end| Closure { arc, first, end };
+    let closure = |arc, first, end| of_party(BOTH_PARTIES, arc, first, end);
     // Up to the fence at 100 arc 1 loses 40 spans with each tick, and covers them at 20.
     // Arc 2 is at junction 2 at 110, if neither it nor arc 0 is closed.
     for (closures, expected) in [
@@ -371,14 +381,58 @@ fn the_town_with_closures() {
             ([10, 60, 202], 1),
         ),
     ] {
-        for operations in BOTH {
-            let (ticks, arc) = expected;
-            let labels = closed_labels(&operations, &TOWN, closures, 10);
-            assert_eq!(labels, Ok((ticks.to_vec(), vec![NO_ARC, 0, arc])));
-            let route = if arc == 1 { [1, 7, 7] } else { [0, 2, 7] };
-            let mut arcs = [7; 3];
-            let count = (operations.route)(&TOWN, closures, 0, 10, 2, &mut arcs);
-            assert_eq!((count, arcs), (Ok(u32::from(arc)), route));
+        for asker in [BRIGADE, DEPOT] {
+            assert_town_closed(closures, asker, expected);
+        }
+    }
+}
+
+/// The labels of the paper's town from 0 at 10, and junction 2's predecessor and route.
+fn assert_town_closed(closures: &[Closure], asker: u32, (ticks, arc): ([u32; 3], u16)) {
+    for operations in BOTH {
+        let labels = closed_labels(&operations, &TOWN, closures, asker, 10);
+        assert_eq!(labels, Ok((ticks.to_vec(), vec![NO_ARC, 0, arc])));
+        let route = if arc == 1 { [1, 7, 7] } else { [0, 2, 7] };
+        let mut arcs = [7; 3];
+        let count = (operations.route)(&TOWN, closures, asker, 0, 10, 2, &mut arcs);
+        assert_eq!((count, arcs), (Ok(u32::from(arc)), route));
+    }
+}
+
+fn of_party(party: u32, arc: u32, first: u32, end: u32) -> Closure {
+    Closure {
+        arc,
+        first,
+        end,
+        party,
+    }
+}
+
+#[test]
+fn the_town_with_parties() {
+    // Arc 0 is closed to both for ten ticks, then to the depot for as many; arc 1 to the
+    // brigade throughout.
+    let closures = [
+        of_party(DEPOT, 0, 60, 70),
+        of_party(BRIGADE, 1, 0, 1_728_000),
+        of_party(BOTH_PARTIES, 0, 50, 60),
+    ];
+    assert_town_closed(&closures, BRIGADE, ([10, 70, 120], 2));
+    assert_town_closed(&closures, DEPOT, ([10, 80, 100], 1));
+    assert_town_closed(&closures[..1], BRIGADE, ([10, 60, 100], 1));
+    assert_town_closed(&closures[..2], BRIGADE, ([10, 60, 110], 2));
+    assert_town_closed(&closures[1..], DEPOT, ([10, 70, 100], 1));
+    for operations in BOTH {
+        for (list, asker, refusal) in [
+            (&closures[..], 0, 39),
+            (&closures, 3, 39),
+            (&[], 0, 39),
+            (&[of_party(3, 0, 0, 1)], 1, 38),
+            (&[of_party(3, 0, 0, 1)], 0, 38),
+            (&[of_party(3, 0, 0, 1), of_party(0, 3, 0, 1)], 0, 37),
+        ] {
+            let reply = closed_labels(&operations, &TOWN, list, asker, 864_000);
+            assert_eq!(reply, Err(Refusal(refusal)));
         }
     }
 }
@@ -425,7 +479,9 @@ fn the_sheet() {
         let mut labels = [7; 20];
         let mut figures = [7; 20];
         let departures = [27_000, 9_000, 24_000, 21_000];
-        let reply = (operations.sheet)(&TABLE_1, &[], 0, &departures, &mut labels, &mut figures);
+        let buffers = (&mut labels[..], &mut figures[..]);
+        let reply =
+            (operations.sheet)(&TABLE_1, &[], BRIGADE, 0, &departures, buffers.0, buffers.1);
         assert_eq!(reply, Ok(()));
         assert_eq!(labels[5..10], [9_000, 18_000, 26_000, 27_000, 34_000]);
         assert_eq!(
@@ -489,7 +545,7 @@ fn document_004() {
         };
         let route = |departure| {
             let mut arcs = [7; 5];
-            let count = (operations.route)(&TABLE_1, &[], 0, departure, 4, &mut arcs);
+            let count = (operations.route)(&TABLE_1, &[], BRIGADE, 0, departure, 4, &mut arcs);
             arcs[..count.expect("accepted") as usize].to_vec()
         };
         assert_eq!(arrivals(9_000), [9_000, 18_000, 26_000, 27_000, 34_000]);

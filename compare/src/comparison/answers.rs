@@ -95,11 +95,13 @@ pub fn arc_arrival(arc: &LoneArc, departure: u32, interval: u32) -> Result<Outco
 pub fn labels(
     network: &OwnedNetwork,
     closures: &[Closure],
+    asker: u32,
     (source, departure): (u32, u32),
     (label_count, predecessor_count): (usize, usize),
 ) -> Result<Outcome, Difference> {
     let question = format!(
-        "labels from {source} at {departure}, buffers of {label_count} and {predecessor_count}"
+        "labels for {asker} from {source} at {departure}, buffers of {label_count} and \
+         {predecessor_count}"
     );
     let input = || shown_closed(network, closures);
     let reply = compare(&question, input, |operations| {
@@ -108,6 +110,7 @@ pub fn labels(
         let reply = (operations.labels)(
             &network.lent(),
             closures,
+            asker,
             source,
             departure,
             labels.part(),
@@ -126,18 +129,21 @@ pub fn labels(
 pub fn route(
     network: &OwnedNetwork,
     closures: &[Closure],
+    asker: u32,
     (source, departure): (u32, u32),
     destination: u32,
     list_length: usize,
 ) -> Result<Outcome, Difference> {
-    let question =
-        format!("route from {source} at {departure} to {destination}, list of {list_length}");
+    let question = format!(
+        "route for {asker} from {source} at {departure} to {destination}, list of {list_length}"
+    );
     let input = || shown_closed(network, closures);
     let reply = compare(&question, input, |operations| {
         let mut arcs = Lent::new(list_length);
         let reply = (operations.route)(
             &network.lent(),
             closures,
+            asker,
             source,
             departure,
             destination,
@@ -155,12 +161,14 @@ pub fn route(
 pub fn sheet(
     network: &OwnedNetwork,
     closures: &[Closure],
+    asker: u32,
     source: u32,
     departures: &[u32],
     (label_count, figure_count): (usize, usize),
 ) -> Result<Outcome, Difference> {
     let question = format!(
-        "sheet from {source} at {departures:?}, buffers of {label_count} and {figure_count}"
+        "sheet for {asker} from {source} at {departures:?}, buffers of {label_count} and \
+         {figure_count}"
     );
     let input = || shown_closed(network, closures);
     let reply = compare(&question, input, |operations| {
@@ -169,6 +177,7 @@ pub fn sheet(
         let reply = (operations.sheet)(
             &network.lent(),
             closures,
+            asker,
             source,
             departures,
             labels.part(),

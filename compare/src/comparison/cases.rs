@@ -3,9 +3,9 @@
 use super::answers::{self, TableLengths};
 use super::program::{self, Program};
 use super::{Check, Difference, Outcome};
-use crate::inputs::closures::random_closures;
+use crate::inputs::closures::{random_asker, random_closures};
 use crate::inputs::damage::{
-    damage_closures, damage_fences, damage_network, damage_text, replace_one,
+    damage_closures, damage_fences, damage_network, damage_text, replace_one, unknown_asker,
 };
 use crate::inputs::networks::{
     LoneArc, interval_at, random_arc, random_arc_departure, random_departure, random_departures,
@@ -40,7 +40,7 @@ pub const LABELS: Check = Check {
     cases: 40_000,
     run: labels,
     finds_nothing: false,
-    refuses: &[1..=11, 32..=32, 36..=37],
+    refuses: &[1..=11, 32..=32, 36..=39],
 };
 
 pub const ROUTE: Check = Check {
@@ -48,7 +48,7 @@ pub const ROUTE: Check = Check {
     cases: 40_000,
     run: route,
     finds_nothing: false,
-    refuses: &[1..=10, 12..=14, 32..=32, 36..=37],
+    refuses: &[1..=10, 12..=14, 32..=32, 36..=39],
 };
 
 pub const SHEET: Check = Check {
@@ -56,7 +56,7 @@ pub const SHEET: Check = Check {
     cases: 20_000,
     run: sheet,
     finds_nothing: false,
-    refuses: &[1..=10, 30..=32, 36..=37],
+    refuses: &[1..=10, 30..=32, 36..=39],
 };
 
 pub const LOAD: Check = Check {
@@ -169,7 +169,7 @@ fn arc_arrival(random: &mut Random) -> Result<Outcome, Difference> {
 fn labels(random: &mut Random) -> Result<Outcome, Difference> {
     let mut network = random_network(random);
     let start = random_start(random, &network);
-    let closures = random_closure_list(random, &network, start);
+    let (closures, asker) = random_closures_and_asker(random, &network, start);
     let junctions = network.junctions as usize;
     let mut buffers = (junctions, junctions);
     if random.one_in(8) {
@@ -178,14 +178,14 @@ fn labels(random: &mut Random) -> Result<Outcome, Difference> {
     if random.one_in(4) {
         damage_network(random, &mut network);
     }
-    answers::labels(&network, &closures, start, buffers)
+    answers::labels(&network, &closures, asker, start, buffers)
 }
 
 fn route(random: &mut Random) -> Result<Outcome, Difference> {
     let mut network = random_network(random);
     let (source, departure) = random_start(random, &network);
     let destination = random_junction(random, &network);
-    let closures = random_closure_list(random, &network, (source, departure));
+    let (closures, asker) = random_closures_and_asker(random, &network, (source, departure));
     if random.one_in(4) {
         damage_network(random, &mut network);
     }
@@ -193,13 +193,15 @@ fn route(random: &mut Random) -> Result<Outcome, Difference> {
     let route = reference::route(
         &network.lent(),
         &closures,
+        asker,
         source,
         departure,
         destination,
         &mut arcs,
     );
     let list = near(random, route.unwrap_or(0) as usize);
-    answers::route(&network, &closures, (source, departure), destination, list)
+    let start = (source, departure);
+    answers::route(&network, &closures, asker, start, destination, list)
 }
 
 fn sheet(random: &mut Random) -> Result<Outcome, Difference> {
@@ -207,7 +209,7 @@ fn sheet(random: &mut Random) -> Result<Outcome, Difference> {
     let source = random_junction(random, &network);
     let departures = random_list(random, &network);
     let departure = departures.first().copied().unwrap_or(0);
-    let closures = random_closure_list(random, &network, (source, departure));
+    let (closures, asker) = random_closures_and_asker(random, &network, (source, departure));
     let junctions = network.junctions as usize;
     let mut buffers = (departures.len() * junctions, FIGURES * junctions);
     if random.one_in(8) {
@@ -216,7 +218,7 @@ fn sheet(random: &mut Random) -> Result<Outcome, Difference> {
     if random.one_in(4) {
         damage_network(random, &mut network);
     }
-    answers::sheet(&network, &closures, source, &departures, buffers)
+    answers::sheet(&network, &closures, asker, source, &departures, buffers)
 }
 
 fn load(random: &mut Random) -> Result<Outcome, Difference> {
@@ -360,18 +362,24 @@ fn random_start(random: &mut Random, network: &OwnedNetwork) -> (u32, u32) {
     (source, departure)
 }
 
-/// Closures at about the ticks of the question, at times not a list that is taken.
-fn random_closure_list(
+/// Closures at about the ticks of the question, at times not a list that is taken, and an
+/// asker, at times one that there is not.
+fn random_closures_and_asker(
     random: &mut Random,
     network: &OwnedNetwork,
     (source, departure): (u32, u32),
-) -> Vec<Closure> {
+) -> (Vec<Closure>, u32) {
     let source = source % network.junctions;
     let mut closures = random_closures(random, network, source, departure % DAY);
     if random.one_in(8) {
         damage_closures(random, network.arcs(), &mut closures);
     }
-    closures
+    let asker = if random.one_in(16) {
+        unknown_asker(random)
+    } else {
+        random_asker(random)
+    };
+    (closures, asker)
 }
 
 /// A sheet's departures, at times none, too many or one beyond its limit.

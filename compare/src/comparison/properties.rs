@@ -6,6 +6,7 @@ mod forms;
 mod holds;
 mod intervals;
 mod midnight;
+mod parties;
 mod sheets;
 
 pub use closures::{
@@ -19,12 +20,13 @@ pub use forms::{
 pub use holds::{ARC_HELD, HOLD_TABLE, HOLDS_AS_ARCS};
 pub use intervals::{INTERVALS_PASSED_ON, LABELS_BY_ARCS, LABELS_OF_PATHS, ONE_INTERVAL};
 pub use midnight::{DAY_LATER, LABELS_ROTATED};
+pub use parties::{OTHERS_CLOSURES, OWN_OR_BOTH, PARTIES_EXCHANGED};
 pub use sheets::{SHEET_BY_LABELS, SHEET_SHUFFLED, SHEET_TWICE};
 
 use super::answers::{shown_arc, shown_closed};
 use super::{Check, Difference, Outcome};
 use crate::cabinet;
-use crate::inputs::closures::random_closures;
+use crate::inputs::closures::{random_asker, random_closures};
 use crate::inputs::networks::{
     LoneArc, improve, interval_at, random_arc, random_arc_departure, random_departure,
     random_network, random_towards, small_network,
@@ -188,16 +190,18 @@ fn labels_by_walks(random: &mut Random) -> Result<Outcome, Difference> {
     let source = random.below(network.junctions);
     let departure = random_departure(random, &network.fences);
     let closures = random_closures(random, &network, source, departure);
-    let walks = Walks::all(&network, &closures, source, departure);
+    let asker = random_asker(random);
+    let stopping = stopping(&closures, asker);
+    let walks = Walks::all(&network, &stopping, source, departure);
     let expected = (&walks.labels, &walks.predecessors(), &walks.routes());
-    let (labels, predecessors) = cabinet_labels(&network, &closures, source, departure);
+    let (labels, predecessors) = cabinet_labels(&network, &closures, asker, source, departure);
     let routes = (0..network.junctions)
-        .map(|destination| cabinet_route(&network, &closures, source, departure, destination))
+        .map(|to| cabinet_route(&network, &closures, asker, (source, departure), to))
         .collect();
     let found = (&labels, &predecessors, &routes);
     if found != expected {
         return Err(Difference {
-            question: format!("labels and routes from {source} at {departure}"),
+            question: format!("labels and routes for {asker} from {source} at {departure}"),
             input: shown_closed(&network, &closures),
             expected: format!("{expected:?}"),
             found: format!("{found:?}"),
@@ -206,9 +210,16 @@ fn labels_by_walks(random: &mut Random) -> Result<Outcome, Difference> {
     Ok(Outcome::Answered)
 }
 
+/// The records that stop the asker.
+fn stopping(closures: &[Closure], asker: u32) -> Vec<Closure> {
+    let stops = |closure: &&Closure| closure.party == 0 || closure.party == asker;
+    closures.iter().filter(stops).copied().collect()
+}
+
 fn cabinet_labels(
     network: &OwnedNetwork,
     closures: &[Closure],
+    asker: u32,
     source: u32,
     departure: u32,
 ) -> (Vec<u32>, Vec<u16>) {
@@ -218,6 +229,7 @@ fn cabinet_labels(
     let reply = cabinet::labels(
         &network.lent(),
         closures,
+        asker,
         source,
         departure,
         &mut labels,
@@ -231,8 +243,8 @@ fn cabinet_labels(
 fn cabinet_route(
     network: &OwnedNetwork,
     closures: &[Closure],
-    source: u32,
-    departure: u32,
+    asker: u32,
+    (source, departure): (u32, u32),
     destination: u32,
 ) -> Option<Vec<u16>> {
     let mut arcs = vec![0; network.junctions as usize];
@@ -240,6 +252,7 @@ fn cabinet_route(
     let reply = cabinet::route(
         &network,
         closures,
+        asker,
         source,
         departure,
         destination,
@@ -250,13 +263,17 @@ fn cabinet_route(
 }
 
 /// What Labels, Route and Sheet say to an unknown source, with all after it wrong too.
-fn refused_by_the_source(network: &OwnedNetwork, closures: &[Closure]) -> [Result<(), Refusal>; 3] {
+fn refused_by_the_source(
+    network: &OwnedNetwork,
+    closures: &[Closure],
+    asker: u32,
+) -> [Result<(), Refusal>; 3] {
     let network = &network.lent();
     let unknown = network.junctions;
     [
-        cabinet::labels(network, closures, unknown, DAY, &mut [], &mut []),
-        cabinet::route(network, closures, unknown, DAY, unknown, &mut []).map(drop),
-        cabinet::sheet(network, closures, unknown, &[], &mut [], &mut []),
+        cabinet::labels(network, closures, asker, unknown, DAY, &mut [], &mut []),
+        cabinet::route(network, closures, asker, unknown, DAY, unknown, &mut []).map(drop),
+        cabinet::sheet(network, closures, asker, unknown, &[], &mut [], &mut []),
     ]
 }
 
@@ -360,24 +377,25 @@ impl<'a> Walks<'a> {
     }
 }
 
-/// More junctions and arcs, shorter and faster ones with shorter holds, closed at fewer
-/// ticks, and an earlier departure, all together, make no label later.
+/// More junctions and arcs, shorter and faster ones with shorter holds, closed to the asker
+/// at fewer ticks, and an earlier departure, all together, make no label later.
 fn improvement(random: &mut Random) -> Result<Outcome, Difference> {
     let network = random_network(random);
     let source = random.below(network.junctions);
     let departure = random_departure(random, &network.fences);
     let closures = random_closures(random, &network, source, departure);
-    let (improved, fewer) = improve(random, &network, &closures);
+    let asker = random_asker(random);
+    let (improved, fewer) = improve(random, &network, &closures, asker);
     let earlier = random_towards(random, departure, 0);
-    let (labels, _) = cabinet_labels(&network, &closures, source, departure);
-    let (better, _) = cabinet_labels(&improved, &fewer, source, earlier);
+    let (labels, _) = cabinet_labels(&network, &closures, asker, source, departure);
+    let (better, _) = cabinet_labels(&improved, &fewer, asker, source, earlier);
     if labels
         .iter()
         .zip(&better)
         .any(|(label, better)| better > label)
     {
         return Err(Difference {
-            question: format!("from {source} at {departure}, improved at {earlier}"),
+            question: format!("for {asker} from {source} at {departure}, improved at {earlier}"),
             input: [
                 shown_closed(&network, &closures),
                 shown_closed(&improved, &fewer),

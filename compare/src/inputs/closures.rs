@@ -1,8 +1,34 @@
-//! Random lists of closures, and records that close the same ticks or others.
+//! Random lists of closures and askers, and records that close the same ticks or others.
 
 use super::{OwnedNetwork, Random};
 use crate::reference::Closure;
-use crate::reference::limits::{DAY, LAST_TICK, MAX_CLOSURES, NO_ARC, UNREACHED};
+use crate::reference::limits::{
+    BOTH_PARTIES, BRIGADE, DAY, DEPOT, LAST_TICK, MAX_CLOSURES, NO_ARC, UNREACHED,
+};
+
+/// The brigade or the depot.
+pub fn random_asker(random: &mut Random) -> u32 {
+    random.pick(&[BRIGADE, DEPOT])
+}
+
+/// The party with the brigade and the depot exchanged; that of both stays.
+pub fn exchanged(party: u32) -> u32 {
+    match party {
+        BRIGADE => DEPOT,
+        DEPOT => BRIGADE,
+        party => party,
+    }
+}
+
+/// The parties that a list's records have: one alone, two or all.
+const PARTIES: [&[u32]; 6] = [
+    &[BOTH_PARTIES],
+    &[BRIGADE],
+    &[DEPOT],
+    &[BRIGADE, DEPOT],
+    &[BOTH_PARTIES, BRIGADE, DEPOT],
+    &[BOTH_PARTIES, BRIGADE, DEPOT],
+];
 
 /// Records that the network takes, often none. Many close an arc at about the ticks at
 /// which it is driven by who leaves the source at the departure.
@@ -25,6 +51,7 @@ pub fn random_closures(
     }
     let drives = Drives::of(network, source, departure);
     let arcs = drives.random_arcs(random);
+    let parties = random.pick(&PARTIES);
     for _ in 0..count {
         let closure = if !closures.is_empty() && random.one_in(3) {
             let other = random.pick(&closures);
@@ -33,21 +60,30 @@ pub fn random_closures(
             let arc = random.pick(&arcs);
             drives.random_closure(random, arc)
         };
-        closures.push(closure);
+        let party = random.pick(parties);
+        closures.push(Closure { party, ..closure });
     }
     closures
 }
 
-/// The record of an arc between two ticks, made good if they are equal or too late.
+/// The record of an arc for both parties between two ticks, made good if they are equal or
+/// too late.
 fn between(arc: u32, one: u32, other: u32) -> Closure {
     let first = one.min(other).min(LAST_TICK - 1);
     let end = one.max(other).clamp(first + 1, LAST_TICK);
-    Closure { arc, first, end }
+    Closure {
+        arc,
+        first,
+        end,
+        party: BOTH_PARTIES,
+    }
 }
 
 /// A record that repeats another, adjoins it or overlaps with it.
 fn random_beside(random: &mut Random, closure: Closure) -> Closure {
-    let Closure { arc, first, end } = closure;
+    let Closure {
+        arc, first, end, ..
+    } = closure;
     let length = 1 + random.below(100);
     match random.below(4) {
         0 => closure,
@@ -135,18 +171,27 @@ fn near_one_of(random: &mut Random, ticks: &[u32]) -> u32 {
     near(random, tick)
 }
 
-/// Records that close the same ticks: in another order, and some of them parted in two,
-/// which may overlap, or repeated.
+/// Records that close the same ticks to each asker: in another order, and some of them
+/// parted in two, which may overlap or be one for each party, or repeated.
 pub fn random_same_ticks(random: &mut Random, closures: &[Closure]) -> Vec<Closure> {
     let mut same = closures.to_vec();
     for &closure in closures {
         if same.len() < MAX_CLOSURES && random.one_in(2) {
+            let whole = same.iter_mut().find(|one| **one == closure);
+            let whole = whole.expect("not parted before");
+            if closure.party == BOTH_PARTIES && random.one_in(4) {
+                whole.party = BRIGADE;
+                same.push(Closure {
+                    party: DEPOT,
+                    ..closure
+                });
+                continue;
+            }
             let end = 1 + random_inside(random, closure);
             let overlap = random.pick(&[1, 1 + end - closure.first]);
             let first = end - random.below(overlap);
             if first < closure.end {
-                let whole = same.iter_mut().find(|one| **one == closure);
-                whole.expect("not parted before").end = end;
+                whole.end = end;
                 same.push(Closure { first, ..closure });
             } else {
                 same.push(closure);
@@ -157,18 +202,21 @@ pub fn random_same_ticks(random: &mut Random, closures: &[Closure]) -> Vec<Closu
     same
 }
 
-/// Records that close all these ticks and more.
+/// Records that close all these ticks and more, or to both parties.
 pub fn random_more_ticks(random: &mut Random, closures: &[Closure]) -> Vec<Closure> {
     let mut more = closures.to_vec();
     for closure in &mut more {
         let ticks = random.pick(&[0, 0, 1, 1_000]);
         closure.first = closure.first.saturating_sub(random.below(ticks + 1));
         closure.end = LAST_TICK.min(closure.end + random.below(ticks + 1));
+        if random.one_in(4) {
+            closure.party = BOTH_PARTIES;
+        }
     }
     more
 }
 
-/// Records that close some of these ticks and no others.
+/// Records that close some of these ticks and no others, or to one party only.
 pub fn random_fewer_ticks(random: &mut Random, closures: &[Closure]) -> Vec<Closure> {
     let mut fewer = closures.to_vec();
     fewer.retain(|_| !random.one_in(8));
@@ -176,7 +224,13 @@ pub fn random_fewer_ticks(random: &mut Random, closures: &[Closure]) -> Vec<Clos
         if random.one_in(2) {
             let one = random_inside(random, *closure);
             let other = random.pick(&[closure.first, closure.end, one]);
-            *closure = between(closure.arc, one, other);
+            *closure = Closure {
+                party: closure.party,
+                ..between(closure.arc, one, other)
+            };
+        }
+        if closure.party == BOTH_PARTIES && random.one_in(8) {
+            closure.party = random_asker(random);
         }
     }
     fewer
@@ -187,10 +241,11 @@ mod tests {
     use super::super::networks::{random_departure, random_network};
     use super::*;
 
-    /// Whether the records close the arc at the tick.
-    fn closes(closures: &[Closure], arc: u32, tick: u32) -> bool {
+    /// Whether the records close the arc to the asker at the tick.
+    fn closes(closures: &[Closure], asker: u32, arc: u32, tick: u32) -> bool {
+        let stops = |one: &Closure| one.party == 0 || one.party == asker;
         let closed = |one: &Closure| one.arc == arc && one.first <= tick && tick < one.end;
-        closures.iter().any(closed)
+        closures.iter().any(|one| stops(one) && closed(one))
     }
 
     #[test]
@@ -206,14 +261,19 @@ mod tests {
             let fewer = random_fewer_ticks(random, &closures);
             assert!(closures.len().max(same.len()) <= 64);
             for list in [&closures, &same, &more, &fewer] {
-                for &Closure { arc, first, end } in list {
+                for record in list {
+                    let &Closure {
+                        arc, first, end, ..
+                    } = record;
                     assert!((arc as usize) < network.arcs());
                     assert!(first < end && end <= 1_728_000);
+                    assert!(record.party <= 2);
+                    let asker = random_asker(random);
                     for tick in [first.saturating_sub(1), first, end - 1, end] {
-                        let closed = closes(&closures, arc, tick);
-                        assert_eq!(closes(&same, arc, tick), closed);
-                        assert!(closes(&more, arc, tick) || !closed);
-                        assert!(!closes(&fewer, arc, tick) || closed);
+                        let closed = closes(&closures, asker, arc, tick);
+                        assert_eq!(closes(&same, asker, arc, tick), closed);
+                        assert!(closes(&more, asker, arc, tick) || !closed);
+                        assert!(!closes(&fewer, asker, arc, tick) || closed);
                     }
                 }
             }

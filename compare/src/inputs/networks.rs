@@ -4,11 +4,11 @@ use std::fmt;
 use std::mem;
 
 use super::Random;
-use super::closures::{random_closures, random_fewer_ticks};
+use super::closures::{exchanged, random_closures, random_fewer_ticks};
 use super::grids::random_grid;
 use crate::reference::limits::{
-    DAY, LAST_TICK, MAX_ARCS, MAX_CLOSURES, MAX_HOLD, MAX_INTERVALS, MAX_JUNCTIONS, MAX_LENGTH,
-    MAX_SPEED, NO_ARC, UNREACHED,
+    BRIGADE, DAY, LAST_TICK, MAX_ARCS, MAX_CLOSURES, MAX_HOLD, MAX_INTERVALS, MAX_JUNCTIONS,
+    MAX_LENGTH, MAX_SPEED, NO_ARC, UNREACHED,
 };
 use crate::reference::{self, Closure, Network};
 
@@ -46,7 +46,15 @@ impl OwnedNetwork {
         let mut predecessors = vec![NO_ARC; self.junctions as usize];
         let network = self.lent();
         let buffers = (&mut labels[..], &mut predecessors[..]);
-        let reply = reference::labels(&network, &[], source, departure, buffers.0, buffers.1);
+        let reply = reference::labels(
+            &network,
+            &[],
+            BRIGADE,
+            source,
+            departure,
+            buffers.0,
+            buffers.1,
+        );
         reply.expect("a good question");
         (labels, predecessors)
     }
@@ -378,6 +386,7 @@ pub fn improve(
     random: &mut Random,
     network: &OwnedNetwork,
     closures: &[Closure],
+    asker: u32,
 ) -> (OwnedNetwork, Vec<Closure>) {
     let mut improved = network.clone();
     improved.junctions += random.below(MAX_JUNCTIONS + 1 - network.junctions);
@@ -407,7 +416,8 @@ pub fn improve(
         closure.arc = numbers[closure.arc as usize];
     }
     let mut further = random_closures(random, &improved, 0, 0);
-    further.retain(|closure| !numbers.contains(&closure.arc));
+    let other = exchanged(asker);
+    further.retain(|closure| closure.party == other || !numbers.contains(&closure.arc));
     fewer.extend(further);
     fewer.truncate(MAX_CLOSURES);
     (improved, fewer)
@@ -463,7 +473,12 @@ mod tests {
             holds: vec![0, 5],
             speeds: vec![36, 18, 40, 20],
         };
-        let closure = |arc, first, end| Closure { arc, first, end };
+        let closure = |arc, first, end| Closure {
+            arc,
+            first,
+            end,
+            party: 0,
+        };
         let plan = network.closed_daily(&[closure(1, 60, 110), closure(0, 863_999, 864_000)]);
         assert_eq!(plan.fences, [0, 60, 100, 110, 863_999]);
         assert_eq!(plan.speeds, [36, 36, 18, 18, 0, 40, 0, 0, 20, 20]);

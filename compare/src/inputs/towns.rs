@@ -4,7 +4,8 @@ use super::grids::street_grid;
 use super::texts::{pad, town_text};
 use super::{OwnedNetwork, Random};
 use crate::reference::limits::{
-    DAY, MAX_ARCS, MAX_DEPARTURES, MAX_HOLD, MAX_INTERVALS, MAX_TEXT, NO_ARC,
+    BOTH_PARTIES, BRIGADE, DAY, DEPOT, MAX_ARCS, MAX_DEPARTURES, MAX_HOLD, MAX_INTERVALS, MAX_TEXT,
+    NO_ARC,
 };
 use crate::reference::{Closure, Form};
 
@@ -15,7 +16,8 @@ pub struct Town {
     pub text: Vec<u8>,
 }
 
-/// A question from one corner of the grid to the opposite one, at 8 o'clock.
+/// A question of the brigade from one corner of the grid to the opposite one, at 8 o'clock.
+pub const ASKER: u32 = BRIGADE;
 pub const SOURCE: u32 = 0;
 pub const DEPARTURE: u32 = 8 * 36_000;
 
@@ -105,9 +107,9 @@ impl Town {
         self
     }
 
-    /// So many records. Each closes an arc for ten minutes, from the middle of the time on
-    /// that the question is on it. The arcs are predecessors, spread evenly over the order in
-    /// which they are left, from the first on.
+    /// So many records for both parties. Each closes an arc for ten minutes, from the middle
+    /// of the time on that the question is on it. The arcs are predecessors, spread evenly
+    /// over the order in which they are left, from the first on.
     pub fn closures(&self, count: usize) -> Vec<Closure> {
         let (labels, predecessors) = self.network.open_labels(SOURCE, DEPARTURE);
         let mut drives: Vec<(u32, u32, u16)> = Vec::new();
@@ -125,9 +127,19 @@ impl Town {
                 arc: arc.into(),
                 first,
                 end: first + TEN_MINUTES,
+                party: BOTH_PARTIES,
             }
         };
         (0..count).map(closure).collect()
+    }
+
+    /// The same records, every second one the depot's alone.
+    pub fn shared_closures(&self, count: usize) -> Vec<Closure> {
+        let mut closures = self.closures(count);
+        for closure in closures.iter_mut().skip(1).step_by(2) {
+            closure.party = DEPOT;
+        }
+        closures
     }
 
     /// The corner opposite to the source.

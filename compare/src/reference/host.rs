@@ -1,3 +1,4 @@
+use super::closures::ClosedArcs;
 use super::limits::REFUSED;
 use super::load::Town;
 use super::route::reach;
@@ -10,7 +11,8 @@ pub fn host_question(text: &[u8], source: u32, departure: u32, destination: u32)
 
 fn answer(text: &[u8], source: u32, departure: u32, destination: u32) -> Result<u32, Refusal> {
     let town = Town::read(text).map_err(|LoadRefusal { refusal, .. }| refusal)?;
-    let reached = reach(&town.network(), &[], source, departure, destination)?;
+    let closed = ClosedArcs::none();
+    let reached = reach(&town.network(), closed, source, departure, destination)?;
     Ok(reached.label)
 }
 

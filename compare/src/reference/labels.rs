@@ -10,24 +10,30 @@ use super::{Closure, Network, Refusal, network_check};
 pub fn labels(
     network: &Network,
     closures: &[Closure],
+    asker: u32,
     source: u32,
     departure: u32,
     labels: &mut [u32],
     predecessors: &mut [u16],
 ) -> Result<(), Refusal> {
-    check_with_closures(network, closures)?;
+    check_with_closures(network, closures, asker)?;
     check_start(network.junctions, source, departure)?;
     let junctions = network.junctions as usize;
     let exact = labels.len() == junctions && predecessors.len() == junctions;
     Refusal::BUFFER_LENGTHS.unless(exact)?;
-    Search::new(network, closures).run(source, departure, labels, predecessors);
+    let closed = ClosedArcs::new(network.tails.len(), closures, asker);
+    Search::new(network, closed).run(source, departure, labels, predecessors);
     Ok(())
 }
 
-/// The network's own numbers, then the closures'.
-pub(super) fn check_with_closures(network: &Network, closures: &[Closure]) -> Result<(), Refusal> {
+/// The network's own numbers, then the closures' and the asker's.
+pub(super) fn check_with_closures(
+    network: &Network,
+    closures: &[Closure],
+    asker: u32,
+) -> Result<(), Refusal> {
     network_check(network)?;
-    check_closures(network.tails.len(), closures)
+    check_closures(network.tails.len(), closures, asker)
 }
 
 pub(super) fn check_start(junctions: u32, source: u32, departure: u32) -> Result<(), Refusal> {
@@ -43,7 +49,8 @@ pub(super) fn check_departure(departure: u32) -> Result<(), Refusal> {
     Refusal::DEPARTURE.unless(departure < DAY)
 }
 
-/// A checked network with its closures, ready to be labelled from any source at any departure.
+/// A checked network with what is closed in it, ready to be labelled from any source at any
+/// departure.
 pub(super) struct Search<'n> {
     network: Network<'n>,
     arcs_out: ArcsOut,
@@ -51,11 +58,11 @@ pub(super) struct Search<'n> {
 }
 
 impl<'n> Search<'n> {
-    pub fn new(network: &Network<'n>, closures: &[Closure]) -> Self {
+    pub fn new(network: &Network<'n>, closed: ClosedArcs) -> Self {
         Self {
             network: *network,
             arcs_out: ArcsOut::new(network),
-            closed: ClosedArcs::new(network.tails.len(), closures),
+            closed,
         }
     }
 
@@ -138,6 +145,7 @@ impl ArcsOut {
 
 #[cfg(test)]
 mod tests {
+    use super::super::limits::{BOTH_PARTIES, BRIGADE, DEPOT};
     use super::*;
     use crate::inputs::examples::TOWN;
 
@@ -151,11 +159,29 @@ mod tests {
         source: u32,
         departure: u32,
     ) -> (Vec<u32>, Vec<u16>) {
+        closed_to(BRIGADE, network, closures, source, departure)
+    }
+
+    fn closed_to(
+        asker: u32,
+        network: &Network,
+        closures: &[Closure],
+        source: u32,
+        departure: u32,
+    ) -> (Vec<u32>, Vec<u16>) {
         let junctions = network.junctions as usize;
         let mut ticks = vec![7; junctions];
         let mut predecessors = vec![7; junctions];
-        let buffers = (&mut ticks[..], &mut predecessors[..]);
-        labels(network, closures, source, departure, buffers.0, buffers.1).expect("accepted");
+        let reply = labels(
+            network,
+            closures,
+            asker,
+            source,
+            departure,
+            &mut ticks,
+            &mut predecessors,
+        );
+        reply.expect("accepted");
         (ticks, predecessors)
     }
 
@@ -288,8 +314,33 @@ mod tests {
         }
     }
 
+    /// A record that stops both.
     fn closure(arc: u32, first: u32, end: u32) -> Closure {
-        Closure { arc, first, end }
+        Closure {
+            arc,
+            first,
+            end,
+            party: BOTH_PARTIES,
+        }
+    }
+
+    #[test]
+    fn stands_for_its_own_closures_and_those_of_both() {
+        let of_party = |party, arc, end| Closure {
+            party,
+            ..closure(arc, 10, end)
+        };
+        let closures = [
+            of_party(DEPOT, 1, 1_728_000),
+            of_party(BRIGADE, 0, 20),
+            of_party(BOTH_PARTIES, 0, 15),
+        ];
+        let (ticks, predecessors) = closed_to(BRIGADE, &TOWN, &closures, 0, 10);
+        assert_eq!(ticks, [10, 70, 100]);
+        assert_eq!(predecessors, [NO_ARC, 0, 1]);
+        let (ticks, predecessors) = closed_to(DEPOT, &TOWN, &closures, 0, 10);
+        assert_eq!(ticks, [10, 65, 115]);
+        assert_eq!(predecessors, [NO_ARC, 0, 2]);
     }
 
     #[test]
@@ -362,22 +413,39 @@ mod tests {
             holds: &[0, 0, 1_201],
             ..TOWN
         };
-        let unknown = [closure(3, 0, 1); 65];
+        let unknown = [Closure {
+            party: 3,
+            ..closure(3, 0, 1)
+        }; 65];
+        let of_nobody = [Closure {
+            arc: 2,
+            ..unknown[0]
+        }];
         let good = [closure(2, 0, 1); 64];
-        for (network, closures, source, departure, lengths, number) in [
-            (&bad, &unknown[..], 3, 864_000, (2, 2), 8),
-            (&held, &unknown, 3, 864_000, (2, 2), 32),
-            (&TOWN, &unknown, 3, 864_000, (2, 2), 36),
-            (&TOWN, &unknown[1..], 3, 864_000, (2, 2), 37),
-            (&TOWN, &good, 3, 864_000, (2, 2), 9),
-            (&TOWN, &good, 2, 864_000, (2, 2), 10),
-            (&TOWN, &good, 2, 863_999, (2, 3), 11),
-            (&TOWN, &good, 2, 863_999, (3, 4), 11),
+        for (network, closures, asker, source, departure, lengths, number) in [
+            (&bad, &unknown[..], 0, 3, 864_000, (2, 2), 8),
+            (&held, &unknown, 0, 3, 864_000, (2, 2), 32),
+            (&TOWN, &unknown, 0, 3, 864_000, (2, 2), 36),
+            (&TOWN, &unknown[1..], 0, 3, 864_000, (2, 2), 37),
+            (&TOWN, &of_nobody, 0, 3, 864_000, (2, 2), 38),
+            (&TOWN, &good, 0, 3, 864_000, (2, 2), 39),
+            (&TOWN, &[], 3, 3, 864_000, (2, 2), 39),
+            (&TOWN, &good, 1, 3, 864_000, (2, 2), 9),
+            (&TOWN, &good, 2, 2, 864_000, (2, 2), 10),
+            (&TOWN, &good, 1, 2, 863_999, (2, 3), 11),
+            (&TOWN, &good, 2, 2, 863_999, (3, 4), 11),
         ] {
             let mut ticks = vec![7; lengths.0];
             let mut predecessors = vec![7; lengths.1];
-            let buffers = (&mut ticks[..], &mut predecessors[..]);
-            let reply = labels(network, closures, source, departure, buffers.0, buffers.1);
+            let reply = labels(
+                network,
+                closures,
+                asker,
+                source,
+                departure,
+                &mut ticks,
+                &mut predecessors,
+            );
             assert_eq!(reply.unwrap_err().0, number);
             assert!(ticks.iter().all(|&tick| tick == 7));
             assert!(predecessors.iter().all(|&arc| arc == 7));

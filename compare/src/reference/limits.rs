@@ -20,6 +20,12 @@ pub const MAX_SPEED: u8 = 200;
 
 /// Records in one list of closures.
 pub const MAX_CLOSURES: usize = 64;
+/// The party of a closure that stops both askers.
+pub const BOTH_PARTIES: u32 = 0;
+/// An asker, and the party of the closures that stop it alone.
+pub const BRIGADE: u32 = 1;
+/// The other asker.
+pub const DEPOT: u32 = 2;
 
 /// Departures on one sheet.
 pub const MAX_DEPARTURES: usize = 96;

@@ -35,6 +35,8 @@ impl Refusal {
     pub const RESULT_TOO_LONG: Self = Self(35);
     pub const CLOSURE_COUNT: Self = Self(36);
     pub const CLOSURE: Self = Self(37);
+    pub const PARTY: Self = Self(38);
+    pub const ASKER: Self = Self(39);
     pub const DEPARTURE_INTERVAL: Self = Self(46);
 
     /// Refuses unless the condition holds.

@@ -1,3 +1,4 @@
+use super::closures::ClosedArcs;
 use super::labels::{Search, check_start, check_with_closures};
 use super::limits::{NO_ARC, UNREACHED};
 use super::{Closure, Network, Refusal};
@@ -6,13 +7,15 @@ use super::{Closure, Network, Refusal};
 pub fn route(
     network: &Network,
     closures: &[Closure],
+    asker: u32,
     source: u32,
     departure: u32,
     destination: u32,
     arcs: &mut [u16],
 ) -> Result<u32, Refusal> {
-    check_with_closures(network, closures)?;
-    let reached = reach(network, closures, source, departure, destination)?;
+    check_with_closures(network, closures, asker)?;
+    let closed = ClosedArcs::new(network.tails.len(), closures, asker);
+    let reached = reach(network, closed, source, departure, destination)?;
     let route = reached.route(network);
     let list = arcs.get_mut(..route.len()).ok_or(Refusal::LIST_TOO_SHORT)?;
     list.copy_from_slice(&route);
@@ -41,10 +44,10 @@ impl Reached {
     }
 }
 
-/// Labels a checked network with its closures for one question, with refusals 9 to 13.
+/// Labels a checked network with what is closed for one question, with refusals 9 to 13.
 pub(super) fn reach(
     network: &Network,
-    closures: &[Closure],
+    closed: ClosedArcs,
     source: u32,
     departure: u32,
     destination: u32,
@@ -54,7 +57,7 @@ pub(super) fn reach(
     let destination = destination as usize;
     let mut labels = vec![UNREACHED; network.junctions as usize];
     let mut predecessors = vec![NO_ARC; network.junctions as usize];
-    Search::new(network, closures).run(source, departure, &mut labels, &mut predecessors);
+    Search::new(network, closed).run(source, departure, &mut labels, &mut predecessors);
     let label = labels[destination];
     Refusal::UNREACHED.unless(label != UNREACHED)?;
     Ok(Reached {
@@ -66,23 +69,34 @@ pub(super) fn reach(
 
 #[cfg(test)]
 mod tests {
+    use super::super::limits::{BOTH_PARTIES, BRIGADE, DEPOT};
     use super::*;
     use crate::inputs::examples::TOWN;
 
     fn found(network: &Network, source: u32, departure: u32, destination: u32) -> (u32, Vec<u16>) {
-        closed(network, &[], source, departure, destination)
+        closed(network, &[], BRIGADE, source, departure, destination)
     }
 
     fn closed(
         network: &Network,
         closures: &[Closure],
+        asker: u32,
         source: u32,
         departure: u32,
         destination: u32,
     ) -> (u32, Vec<u16>) {
-        let reached = reach(network, closures, source, departure, destination).expect("reached");
+        let closed = ClosedArcs::new(network.tails.len(), closures, asker);
+        let reached = reach(network, closed, source, departure, destination).expect("reached");
         let mut arcs = [7; 3];
-        let reply = route(network, closures, source, departure, destination, &mut arcs);
+        let reply = route(
+            network,
+            closures,
+            asker,
+            source,
+            departure,
+            destination,
+            &mut arcs,
+        );
         let count = reply.expect("accepted");
         let (arcs, behind) = arcs.split_at(count as usize);
         assert!(behind.iter().all(|&arc| arc == 7));
@@ -109,12 +123,32 @@ mod tests {
     #[test]
     fn goes_around_a_closure() {
         for (end, route) in [(20, (110, vec![1])), (21, (110, vec![0, 2]))] {
+            for (party, asker) in [
+                (BOTH_PARTIES, BRIGADE),
+                (BOTH_PARTIES, DEPOT),
+                (DEPOT, DEPOT),
+            ] {
+                let closures = [Closure {
+                    arc: 1,
+                    first: 15,
+                    end,
+                    party,
+                }];
+                assert_eq!(closed(&TOWN, &closures, asker, 0, 10, 2), route);
+            }
+        }
+    }
+
+    #[test]
+    fn goes_through_the_others_closure() {
+        for (party, asker) in [(BRIGADE, DEPOT), (DEPOT, BRIGADE)] {
             let closures = [Closure {
                 arc: 1,
-                first: 15,
-                end,
+                first: 0,
+                end: 1_728_000,
+                party,
             }];
-            assert_eq!(closed(&TOWN, &closures, 0, 10, 2), route);
+            assert_eq!(closed(&TOWN, &closures, asker, 0, 10, 2), (100, vec![1]));
         }
     }
 
@@ -137,20 +171,35 @@ mod tests {
             arc: 0,
             first: 9,
             end: 9,
+            party: 3,
         }; 65];
-        for (network, closures, source, departure, destination, number) in [
-            (&bad, &empty[..], 3, 864_000, 3, 6),
-            (&held, &empty, 3, 864_000, 3, 32),
-            (&TOWN, &empty, 3, 864_000, 3, 36),
-            (&TOWN, &empty[1..], 3, 864_000, 3, 37),
-            (&TOWN, &[], 3, 864_000, 3, 9),
-            (&TOWN, &[], 0, 864_000, 3, 10),
-            (&TOWN, &[], 2, 100, 3, 12),
-            (&TOWN, &[], 2, 100, 0, 13),
-            (&TOWN, &[], 0, 100, 2, 14),
+        let of_nobody = [Closure {
+            first: 8,
+            ..empty[0]
+        }];
+        for (network, closures, asker, source, departure, destination, number) in [
+            (&bad, &empty[..], 0, 3, 864_000, 3, 6),
+            (&held, &empty, 0, 3, 864_000, 3, 32),
+            (&TOWN, &empty, 0, 3, 864_000, 3, 36),
+            (&TOWN, &empty[1..], 0, 3, 864_000, 3, 37),
+            (&TOWN, &of_nobody, 0, 3, 864_000, 3, 38),
+            (&TOWN, &[], 0, 3, 864_000, 3, 39),
+            (&TOWN, &[], 1, 3, 864_000, 3, 9),
+            (&TOWN, &[], 2, 0, 864_000, 3, 10),
+            (&TOWN, &[], 1, 2, 100, 3, 12),
+            (&TOWN, &[], 2, 2, 100, 0, 13),
+            (&TOWN, &[], 1, 0, 100, 2, 14),
         ] {
             let mut arcs = [7; 1];
-            let reply = route(network, closures, source, departure, destination, &mut arcs);
+            let reply = route(
+                network,
+                closures,
+                asker,
+                source,
+                departure,
+                destination,
+                &mut arcs,
+            );
             assert_eq!(reply.unwrap_err().0, number);
             assert_eq!(arcs, [7; 1]);
         }

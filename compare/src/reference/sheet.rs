@@ -1,3 +1,4 @@
+use super::closures::ClosedArcs;
 use super::labels::{Search, check_departure, check_source, check_with_closures};
 use super::limits::{FIGURES, MAX_DEPARTURES, NO_ARC, UNREACHED};
 use super::{Closure, Network, Refusal};
@@ -7,18 +8,20 @@ use super::{Closure, Network, Refusal};
 pub fn sheet(
     network: &Network,
     closures: &[Closure],
+    asker: u32,
     source: u32,
     departures: &[u32],
     labels: &mut [u32],
     figures: &mut [u32],
 ) -> Result<(), Refusal> {
-    check_with_closures(network, closures)?;
+    check_with_closures(network, closures, asker)?;
     check_departures(network.junctions, source, departures)?;
     let junctions = network.junctions as usize;
     let exact =
         labels.len() == departures.len() * junctions && figures.len() == FIGURES * junctions;
     Refusal::SHEET_LENGTHS.unless(exact)?;
-    fill(network, closures, source, departures, labels, figures);
+    let closed = ClosedArcs::new(network.tails.len(), closures, asker);
+    fill(network, closed, source, departures, labels, figures);
     Ok(())
 }
 
@@ -37,13 +40,13 @@ pub(super) fn check_departures(
 /// Fills both buffers of a checked question.
 pub(super) fn fill(
     network: &Network,
-    closures: &[Closure],
+    closed: ClosedArcs,
     source: u32,
     departures: &[u32],
     labels: &mut [u32],
     figures: &mut [u32],
 ) {
-    let search = Search::new(network, closures);
+    let search = Search::new(network, closed);
     let mut predecessors = vec![NO_ARC; network.junctions as usize];
     let rows = labels.chunks_exact_mut(network.junctions as usize);
     let (figures, _) = figures.as_chunks_mut();
@@ -71,24 +74,35 @@ fn add_journey([reached, least, greatest, sum]: &mut [u32; FIGURES], ticks: u32)
 
 #[cfg(test)]
 mod tests {
+    use super::super::limits::{BOTH_PARTIES, BRIGADE, DEPOT};
     use super::*;
+    use crate::inputs::closures::exchanged;
     use crate::inputs::examples::{TABLE_1, TOWN};
 
     fn filled(network: &Network, source: u32, departures: &[u32]) -> (Vec<u32>, Vec<u32>) {
-        closed(network, &[], source, departures)
+        closed(network, &[], BRIGADE, source, departures)
     }
 
     fn closed(
         network: &Network,
         closures: &[Closure],
+        asker: u32,
         source: u32,
         departures: &[u32],
     ) -> (Vec<u32>, Vec<u32>) {
         let junctions = network.junctions as usize;
         let mut labels = vec![7; departures.len() * junctions];
         let mut figures = vec![7; 4 * junctions];
-        let buffers = (&mut labels[..], &mut figures[..]);
-        sheet(network, closures, source, departures, buffers.0, buffers.1).expect("accepted");
+        let reply = sheet(
+            network,
+            closures,
+            asker,
+            source,
+            departures,
+            &mut labels,
+            &mut figures,
+        );
+        reply.expect("accepted");
         (labels, figures)
     }
 
@@ -121,14 +135,22 @@ mod tests {
 
     #[test]
     fn closes_in_every_row() {
-        let closures = [Closure {
-            arc: 0,
-            first: 0,
-            end: 110,
-        }];
-        let (labels, figures) = closed(&TOWN, &closures, 0, &[100, 10]);
-        assert_eq!(labels, [100, 210, 260, 10, 210, 100]);
-        assert_eq!(figures, [2, 0, 0, 0, 2, 110, 200, 310, 2, 90, 160, 250]);
+        for (party, asker) in [(BOTH_PARTIES, BRIGADE), (BRIGADE, BRIGADE), (DEPOT, DEPOT)] {
+            let closures = [Closure {
+                arc: 0,
+                first: 0,
+                end: 110,
+                party,
+            }];
+            let (labels, figures) = closed(&TOWN, &closures, asker, 0, &[100, 10]);
+            assert_eq!(labels, [100, 210, 260, 10, 210, 100]);
+            assert_eq!(figures, [2, 0, 0, 0, 2, 110, 200, 310, 2, 90, 160, 250]);
+            if party == asker {
+                let open = filled(&TOWN, 0, &[100, 10]);
+                let other = closed(&TOWN, &closures, exchanged(asker), 0, &[100, 10]);
+                assert_eq!(other, open);
+            }
+        }
     }
 
     #[test]
@@ -183,11 +205,21 @@ mod tests {
             arc: 0,
             first: 9,
             end: 1_728_001,
+            party: 3,
         }; 65];
-        for (closures, number) in [(&late_end[..], 36), (&late_end[1..], 37)] {
-            let reply = sheet(&TOWN, closures, 3, &many, &mut [7; 2], &mut [7; 2]);
+        let of_nobody = [Closure {
+            end: 10,
+            ..late_end[0]
+        }];
+        for (closures, number) in [
+            (&late_end[..], 36),
+            (&late_end[1..], 37),
+            (&of_nobody, 38),
+            (&[], 39),
+        ] {
+            let reply = sheet(&TOWN, closures, 0, 3, &many, &mut [7; 2], &mut [7; 2]);
             assert_eq!(reply.unwrap_err().0, number);
-            let reply = sheet(&held, closures, 3, &many, &mut [7; 2], &mut [7; 2]);
+            let reply = sheet(&held, closures, 0, 3, &many, &mut [7; 2], &mut [7; 2]);
             assert_eq!(reply.unwrap_err().0, 32);
         }
         for (network, source, departures, lengths, number) in [
@@ -208,7 +240,16 @@ mod tests {
         ] {
             let mut labels = vec![7; lengths.0];
             let mut figures = vec![7; lengths.1];
-            let reply = sheet(network, &[], source, departures, &mut labels, &mut figures);
+            let buffers = (&mut labels[..], &mut figures[..]);
+            let reply = sheet(
+                network,
+                &[],
+                DEPOT,
+                source,
+                departures,
+                buffers.0,
+                buffers.1,
+            );
             assert_eq!(reply.unwrap_err().0, number);
             assert!(labels.iter().all(|&label| label == 7));
             assert!(figures.iter().all(|&figure| figure == 7));

@@ -5,18 +5,24 @@
 use compare::cabinet;
 use compare::comparison::answers;
 use compare::inputs::OwnedNetwork;
-use compare::inputs::towns::{DEPARTURE, SOURCE, Town};
+use compare::inputs::towns::{ASKER, DEPARTURE, SOURCE, Town};
 use compare::reference::Closure;
-use compare::reference::limits::{NO_ARC, UNREACHED};
+use compare::reference::limits::{BOTH_PARTIES, NO_ARC, UNREACHED};
 
 use super::{assert_answered, assert_numbers_after, closed_labels, labels, number, small_town};
 
-fn closure(arc: u32, first: u32, end: u32) -> Closure {
-    Closure { arc, first, end }
+/// A record for both parties.
+pub fn closure(arc: u32, first: u32, end: u32) -> Closure {
+    Closure {
+        arc,
+        first,
+        end,
+        party: BOTH_PARTIES,
+    }
 }
 
 /// Junctions in a row, at 36 from each to the next.
-fn row(lengths: &[u32], holds: &[u16]) -> OwnedNetwork {
+pub fn row(lengths: &[u32], holds: &[u16]) -> OwnedNetwork {
     let arcs = lengths.len() as u16;
     OwnedNetwork {
         junctions: u32::from(arcs) + 1,
@@ -30,27 +36,40 @@ fn row(lengths: &[u32], holds: &[u16]) -> OwnedNetwork {
 }
 
 /// Ten metres, which take ten ticks.
-fn ten_metres() -> OwnedNetwork {
+pub fn ten_metres() -> OwnedNetwork {
     row(&[10], &[0])
 }
 
 /// The labels from junction 0, on which both agree. Those of a sheet's row are the same, and
 /// each junction has a route unless it is unreached.
 fn labels_with(network: &OwnedNetwork, closures: &[Closure], departure: u32) -> Vec<u32> {
-    let (labels, _) = closed_labels(network, closures, departure);
+    labels_for(ASKER, network, closures, departure)
+}
+
+/// The same for one who asks.
+pub fn labels_for(
+    asker: u32,
+    network: &OwnedNetwork,
+    closures: &[Closure],
+    departure: u32,
+) -> Vec<u32> {
+    let (labels, _) = closed_labels(network, closures, asker, departure);
     let junctions = labels.len();
     let mut rows = vec![7; 2 * junctions];
     let mut figures = vec![7; 4 * junctions];
     let departures = [departure; 2];
     let lent = network.lent();
-    let reply = cabinet::sheet(&lent, closures, 0, &departures, &mut rows, &mut figures);
+    let tables = (&mut rows[..], &mut figures[..]);
+    let reply = cabinet::sheet(&lent, closures, asker, 0, &departures, tables.0, tables.1);
     assert_eq!(reply, Ok(()));
     assert_eq!(rows, labels.repeat(2));
     let buffers = (rows.len(), figures.len());
-    assert_answered([answers::sheet(network, closures, 0, &departures, buffers)]);
+    let sheet = answers::sheet(network, closures, asker, 0, &departures, buffers);
+    assert_answered([sheet]);
     for (junction, &label) in labels.iter().enumerate() {
         let destination = junction as u32;
-        let route = answers::route(network, closures, (0, departure), destination, junctions);
+        let start = (0, departure);
+        let route = answers::route(network, closures, asker, start, destination, junctions);
         assert_eq!(number(route), if label == UNREACHED { 13 } else { 0 });
     }
     labels
@@ -307,13 +326,13 @@ fn up_to_the_last_tick() {
         junctions: 2,
         ..row(&[10, 20], &[0; 2])
     };
-    let (ticks, predecessors) = closed_labels(&two, &[closure(0, 109, last)], 100);
+    let (ticks, predecessors) = closed_labels(&two, &[closure(0, 109, last)], ASKER, 100);
     assert_eq!(
         (&ticks[..], &predecessors[..]),
         (&[100, 120][..], &[NO_ARC, 1][..])
     );
     let both = [closure(0, 109, last), closure(1, 119, last)];
-    let (ticks, predecessors) = closed_labels(&two, &both, 100);
+    let (ticks, predecessors) = closed_labels(&two, &both, ASKER, 100);
     assert_eq!(
         (&ticks[..], &predecessors[..]),
         (&[100, UNREACHED][..], &[NO_ARC; 2][..])
@@ -398,8 +417,8 @@ fn of_another_arc() {
             ..row(&lengths, &[0; 640])
         };
         let with = |arc: usize, first, end| {
-            let (labels, predecessors) =
-                closed_labels(&network, &[closure(arc as u32, first, end)], 100);
+            let closures = [closure(arc as u32, first, end)];
+            let (labels, predecessors) = closed_labels(&network, &closures, ASKER, 100);
             (labels[1], predecessors[1])
         };
         let arc = shortest as u16;
@@ -450,10 +469,10 @@ fn equal_arrivals() {
             heads: vec![1; 2],
             ..row(&lengths, &[0; 2])
         };
-        let found = closed_labels(&network, records, 100);
+        let found = closed_labels(&network, records, ASKER, 100);
         assert_eq!(found, (vec![100, label], vec![NO_ARC, predecessor]));
         let mut arcs = [7; 2];
-        let count = cabinet::route(&network.lent(), records, 0, 100, 1, &mut arcs);
+        let count = cabinet::route(&network.lent(), records, ASKER, 0, 100, 1, &mut arcs);
         assert_eq!((count, arcs), (Ok(1), [predecessor, 7]));
     }
 }
@@ -469,6 +488,7 @@ fn rows_of_a_sheet() {
     let reply = cabinet::sheet(
         &network.lent(),
         &closures,
+        ASKER,
         0,
         &departures,
         &mut rows,
@@ -484,17 +504,25 @@ fn rows_of_a_sheet() {
     assert_eq!(rows[..], expected);
     // Journeys of 20, 10, 20, 20, 11, 10, 10 and 20 ticks.
     assert_eq!(figures, [8, 0, 0, 0, 8, 10, 20, 121]);
-    assert_answered([answers::sheet(&network, &closures, 0, &departures, (16, 8))]);
+    let sheet = answers::sheet(&network, &closures, ASKER, 0, &departures, (16, 8));
+    assert_answered([sheet]);
 }
 
 /// The numbers of Labels, Route and Sheet for a network with ten junctions.
 fn numbers(network: &OwnedNetwork, closures: &[Closure]) -> [u32; 3] {
-    let start = (0, DEPARTURE);
+    numbers_for(ASKER, network, closures)
+}
+
+/// The same for one who asks.
+pub fn numbers_for(asker: u32, network: &OwnedNetwork, closures: &[Closure]) -> [u32; 3] {
+    let (start, departures) = ((0, DEPARTURE), [DEPARTURE]);
+    let buffers = (10, 40);
     [
-        number(answers::labels(network, closures, start, (10, 10))),
-        number(answers::route(network, closures, start, 9, 10)),
-        number(answers::sheet(network, closures, 0, &[DEPARTURE], (10, 40))),
+        answers::labels(network, closures, asker, start, (10, 10)),
+        answers::route(network, closures, asker, start, 9, 10),
+        answers::sheet(network, closures, asker, 0, &departures, buffers),
     ]
+    .map(number)
 }
 
 #[test]
@@ -615,6 +643,7 @@ const WRONG: Closure = Closure {
     arc: u32::MAX,
     first: u32::MAX,
     end: 1_728_001,
+    party: u32::MAX,
 };
 
 #[test]
@@ -623,8 +652,23 @@ fn numbers_before_the_list() {
     let damaged = |number, damage: fn(&mut OwnedNetwork)| {
         let mut network = small_town();
         damage(&mut network);
-        for count in [0, 1, 64, 65, 1_000] {
-            assert_eq!(numbers(&network, &vec![WRONG; count]), [number; 3]);
+        let of_nobody = Closure {
+            party: 3,
+            ..closure(0, 0, 1)
+        };
+        for record in [WRONG, of_nobody] {
+            for (count, asker) in [
+                (0, 0),
+                (0, 1),
+                (1, 2),
+                (64, 1),
+                (64, 3),
+                (65, 1),
+                (1_000, 0),
+            ] {
+                let found = numbers_for(asker, &network, &vec![record; count]);
+                assert_eq!(found, [number; 3]);
+            }
         }
     };
     damaged(1, |network| network.junctions = 0);
@@ -659,15 +703,26 @@ fn numbers_after_the_list() {
         (&[good[0]; 65], 36),
         (&[WRONG; 65], 36),
     ] {
-        assert_numbers_after(&network, closures, before);
+        assert_numbers_after(&network, closures, ASKER, before);
     }
     // An unreached destination, by the closure alone.
     let network = ten_metres();
     let closed = [closure(0, 0, 1_728_000)];
-    assert_eq!(number(answers::route(&network, &closed, (0, 0), 1, 0)), 13);
-    assert_eq!(number(answers::route(&network, &[], (0, 0), 1, 0)), 14);
-    assert_eq!(number(answers::route(&network, &closed, (0, 0), 2, 0)), 12);
-    assert_eq!(number(answers::route(&network, &closed, (0, 0), 0, 0)), 0);
+    let route = |closures: &[Closure], destination| {
+        let start = (0, 0);
+        number(answers::route(
+            &network,
+            closures,
+            ASKER,
+            start,
+            destination,
+            0,
+        ))
+    };
+    assert_eq!(route(&closed, 1), 13);
+    assert_eq!(route(&[], 1), 14);
+    assert_eq!(route(&closed, 2), 12);
+    assert_eq!(route(&closed, 0), 0);
 }
 
 #[test]
@@ -679,7 +734,7 @@ fn towns_with_closures() {
         for count in [1, 64] {
             let closures = town.closures(count);
             assert_eq!(closures.len(), count);
-            let (closed, _) = closed_labels(network, &closures, DEPARTURE);
+            let (closed, _) = closed_labels(network, &closures, ASKER, DEPARTURE);
             let later = open
                 .iter()
                 .zip(&closed)
@@ -690,6 +745,7 @@ fn towns_with_closures() {
             assert_answered([answers::route(
                 network,
                 &closures,
+                ASKER,
                 start,
                 town.destination(),
                 junctions,

@@ -6,7 +6,7 @@ use compare::cabinet;
 use compare::comparison::answers;
 use compare::inputs::OwnedNetwork;
 use compare::inputs::networks::interval_at;
-use compare::inputs::towns::DEPARTURE;
+use compare::inputs::towns::{ASKER, DEPARTURE};
 use compare::reference::limits::{NO_ARC, UNREACHED};
 
 use super::{
@@ -20,8 +20,8 @@ fn numbers(network: &OwnedNetwork) -> [u32; 4] {
     let start = (0, DEPARTURE);
     [
         number(answers::network_check(network)),
-        number(answers::labels(network, &[], start, (10, 10))),
-        number(answers::route(network, &[], start, 9, 10)),
+        number(answers::labels(network, &[], ASKER, start, (10, 10))),
+        number(answers::route(network, &[], ASKER, start, 9, 10)),
         sheet_number(network, 0, &[DEPARTURE], (10, 40)),
     ]
 }
@@ -164,7 +164,7 @@ fn numbers_after_a_hold() {
     let mut network = small_town();
     for (hold, before) in [(1_200, 0), (1_201, 32)] {
         network.holds[LAST_ARC] = hold;
-        assert_numbers_after(&network, &[], before);
+        assert_numbers_after(&network, &[], ASKER, before);
     }
 }
 
@@ -355,7 +355,7 @@ fn the_shorter_hold_wins() {
             let expected = (ticks.to_vec(), vec![NO_ARC, predecessor, 3]);
             assert_eq!(labels(&network, departure), expected);
             let mut arcs = [7; 3];
-            let count = cabinet::route(&network.lent(), &[], 0, departure, 2, &mut arcs);
+            let count = cabinet::route(&network.lent(), &[], ASKER, 0, departure, 2, &mut arcs);
             assert_eq!((count, arcs), (Ok(2), [predecessor, 3, 7]));
         }
     }
@@ -405,7 +405,14 @@ fn a_walk_of_longest_holds() {
         let (ticks, _) = labels(&network, departure);
         let expected: Vec<u32> = (departure..).step_by(1_201).take(200).collect();
         assert_eq!(ticks, expected);
-        assert_answered([answers::route(&network, &[], (0, departure), 199, 199)]);
+        assert_answered([answers::route(
+            &network,
+            &[],
+            ASKER,
+            (0, departure),
+            199,
+            199,
+        )]);
     }
 }
 
@@ -440,6 +447,7 @@ fn unreached_by_a_hold() {
             let route = number(answers::route(
                 &network,
                 &[],
+                ASKER,
                 (0, start),
                 junction as u32,
                 3,
@@ -454,6 +462,7 @@ fn unreached_by_a_hold() {
         let reply = cabinet::sheet(
             &network.lent(),
             &[],
+            ASKER,
             0,
             &departures,
             &mut rows,

@@ -4,7 +4,7 @@
 use Prim.Native.Nat.{ℕ, zero, suc, _+_, _≤_, _<_}
 use mathlib.Core.Path.{_≡_, refl, sym, subst, _∙_}
 use mathlib.Core.Bool.{false}
-use mathlib.Core.List.{List, [], _++_}
+use mathlib.Core.List.{List, _++_}
 use mathlib.Core.Logic.{_⊎_, inl, inr}
 use native.Mathlib.Omega.{arith}
 use lib.ListN.{length, getD, take}
@@ -12,6 +12,7 @@ use borrow.Author.Tests.{not-false, ltb-true, eqb-false}
 use Rattle.model.specs.Ticks.{day, last, never}
 use Rattle.model.specs.Limits.{maxJunctions}
 use Rattle.model.specs.Network.{Network, Accepted, netOf}
+use Rattle.model.specs.Parties.{brigade}
 use Rattle.model.specs.Demands.{label}
 use Rattle.model.specs.Routes.{routeOf}
 use Rattle.refusals.specs.Refusals.{refusalBase}
@@ -47,15 +48,18 @@ loads text bytes = go (firstFault text) refl
 
 -- ---- The answer
 
--- a town's network, which has no closures
-module _ (N : Network) (none : N .closures ≡ []) (kept : Accepted N) (source departure destination : ℕ) where
+-- a town's network has no closures, so that the brigade finds it as it is
+module _ (T : Town) (kept : Accepted (networkOf T)) (source departure destination : ℕ) where
+  abbrev N : Network
+  N = networkOf T
+
   abbrev answer : Outcome ℕ
-  answer = routeAnswer N source departure destination hostList
+  answer = routeAnswer N brigade source departure destination hostList
 
   abbrev arrival : ℕ
   arrival = label N source departure destination
 
-  label-earliest : Routable N source departure destination hostList → EarliestAt (netOf N) source departure destination arrival
+  label-earliest : Routable N brigade source departure destination hostList → EarliestAt (netOf N) source departure destination arrival
   label-earliest r =
       let d = demand-2 N kept source departure (r .taken .source-below) (r .taken .departure-below) in
       record {
@@ -64,18 +68,18 @@ module _ (N : Network) (none : N .closures ≡ []) (kept : Accepted N) (source d
         no-sooner-waiting = λ t walk. d .no-sooner-waiting destination t walk;
       }
 
-  label-below : Routable N source departure destination hostList → arrival < refusalBase
+  label-below : Routable N brigade source departure destination hostList → arrival < refusalBase
   label-below r = omega (arith, arrives-by-last {departure = departure} (omega (arith, r .taken .departure-below)) (label-earliest r .attained))
 
-  answered-routable : (count : ℕ) → answer ≡ replied count → Routable N source departure destination hostList
-  answered-routable count e = route-replies-when-routable N source departure destination hostList count .0 e .0
+  answered-routable : (count : ℕ) → answer ≡ replied count → Routable N brigade source departure destination hostList
+  answered-routable count e = route-replies-when-routable N brigade source departure destination hostList count .0 e .0
 
   -- The list has room for every route.
   route-found : source < N .junctions → departure < day → destination < N .junctions → (arrival ≡ never → ⊥) →
       answer ≡ replied (length (routeOf (netOf N) source departure destination))
   route-found source-below departure-below destination-below reached =
-      room-for-every-route N source departure destination hostList
-      (record { accepted = kept; closures-kept = no-closures-keep none; source-below = source-below; departure-below = departure-below })
+      room-for-every-route N brigade source departure destination hostList
+      (inl refl) (record { accepted = kept; closures-kept = no-closures-keep refl; source-below = source-below; departure-below = departure-below })
       destination-below reached (zeros-long maxJunctions (omega arith))
 
   earliest-answered : source < N .junctions → departure < day → destination < N .junctions → {tick : ℕ} →
@@ -109,7 +113,7 @@ module _ (N : Network) (none : N .closures ≡ []) (kept : Accepted N) (source d
   route-refusal : (number : ℕ) → answer ≡ refused number → HostRefusal number
   unfolding routeAnswer
   route-refusal number e =
-      let at = refused-exactly-when ℕ rules _ number .0 (sym (kept-before (closedNetworkRules N) rules _ (open-kept N none kept)) ∙ e) in
+      let at = refused-exactly-when ℕ rules _ number .0 (sym (kept-before (closedNetworkRules N brigade) rules _ (open-kept N refl kept)) ∙ e) in
       rule-refusal (at .0) (at .1) (at .2) (at .4) e
 
 -- ---- The host's answer
@@ -126,14 +130,14 @@ module _ (text : List ℕ) (source departure destination : ℕ) where
 pub host-refuses-only : HostRefusesOnly
 host-refuses-only text bytes source departure destination number e = go (loads text bytes)
   where
-    routed : (N : Network) → N .closures ≡ [] → Accepted N → (outcome : Outcome ℕ) → routeAnswer N source departure destination hostList ≡ outcome →
-        afterRoute outcome (label N source departure destination) ≡ refusalBase + number → HostRefusal number
-    routed N none kept (refused n) is e = let same : n ≡ number = omega arith in route-refusal N none kept source departure destination number (is ∙ rw same)
-    routed N none kept (replied count) is e =
-        absurd (omega (arith, label-below N none kept source departure destination (answered-routable N none kept source departure destination count is)))
+    routed : (T : Town) → Accepted (networkOf T) → (outcome : Outcome ℕ) → routeAnswer (networkOf T) brigade source departure destination hostList ≡ outcome →
+        afterRoute outcome (label (networkOf T) source departure destination) ≡ refusalBase + number → HostRefusal number
+    routed T kept (refused n) is e = let same : n ≡ number = omega arith in route-refusal T kept source departure destination number (is ∙ rw same)
+    routed T kept (replied count) is e =
+        absurd (omega (arith, label-below T kept source departure destination (answered-routable T kept source departure destination count is)))
 
     go : TownOrFault text → HostRefusal number
-    go (inl found) = routed (networkOf (found .0)) refl (found .1 .1 .kept .network-accepted) _ refl (sym (described-answers text source departure destination (found .1)) ∙ e)
+    go (inl found) = routed (found .0) (found .1 .1 .kept .network-accepted) _ refl (sym (described-answers text source departure destination (found .1)) ∙ e)
     go (inr fault) =
         let answer = fault-answers text source departure destination (fault .2) in
         HostRefusal.text number (omega (arith, answer, e, fault .3 .0)) (omega (arith, answer, e, fault .3 .1))
@@ -141,19 +145,19 @@ host-refuses-only text bytes source departure destination number e = go (loads t
 pub host-answers-earliest : HostAnswersEarliest
 host-answers-earliest text bytes source departure destination tick = (forward, back)
   where
-    routed : {T : Town} → DescribesTown text T → (outcome : Outcome ℕ) → routeAnswer (networkOf T) source departure destination hostList ≡ outcome →
+    routed : {T : Town} → DescribesTown text T → (outcome : Outcome ℕ) → routeAnswer (networkOf T) brigade source departure destination hostList ≡ outcome →
         afterRoute outcome (label (networkOf T) source departure destination) ≡ tick → tick < refusalBase → Answers text source departure destination tick
     routed described (refused number) is e below = absurd (omega arith)
     routed {T} described (replied count) is e below =
         let kept = described .1 .kept .network-accepted in
-        let r = answered-routable (networkOf T) refl kept source departure destination count is in
+        let r = answered-routable T kept source departure destination count is in
         record {
           town = T;
           described = described;
           source-below = r .taken .source-below;
           departure-below = r .taken .departure-below;
           destination-below = r .destination-below;
-          earliest = rw e at (label-earliest (networkOf T) refl kept source departure destination r);
+          earliest = rw e at (label-earliest T kept source departure destination r);
         }
 
     forward : (hostAnswer text source departure destination ≡ tick) × (tick < refusalBase) → Answers text source departure destination tick
@@ -165,8 +169,7 @@ host-answers-earliest text bytes source departure destination tick = (forward, b
 
     back : Answers text source departure destination tick → (hostAnswer text source departure destination ≡ tick) × (tick < refusalBase)
     back a =
-        let N = networkOf (a .town) in
         let kept = a .described .1 .kept .network-accepted in
         let early : departure ≤ last = omega (arith, a .departure-below) in
-        let is-tick = earliest-answered N refl kept source departure destination (a .source-below) (a .departure-below) (a .destination-below) (a .earliest) in
+        let is-tick = earliest-answered (a .town) kept source departure destination (a .source-below) (a .departure-below) (a .destination-below) (a .earliest) in
         (described-answers text source departure destination (a .described) ∙ is-tick, omega (arith, arrives-by-last early (a .earliest .attained)))

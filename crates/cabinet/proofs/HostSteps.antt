@@ -3,7 +3,9 @@ use Prim.Native.Nat.{ℕ, _+_}
 use mathlib.Core.Path.{_≡_}
 use mathlib.Core.List.{List}
 use mathlib.Core.Option.{Option, some}
-use Rattle.model.specs.Network.{Network}
+use Rattle.model.specs.Demands.{label}
+use Rattle.model.specs.Network.{Network, networkFor}
+use Rattle.model.specs.Parties.{brigade}
 use Rattle.refusals.specs.Refusals.{refusalBase}
 use Rattle.model.specs.Rules.{refused, replied}
 use Rattle.routing.specs.Route.{routeAnswer, routeArrival}
@@ -11,14 +13,16 @@ use Rattle.townfile.specs.FirstFault.{refusedAt, accepted}
 use Rattle.townfile.specs.Grammar.{networkOf}
 use Rattle.townfile.specs.Tables.{townOf}
 use Rattle.townfile.specs.Load.{Counts, roomyTables, loadAnswer}
-use Rattle.cabinet.specs.Host.{hostList, labelOrCode, hostAnswer}
+use Rattle.cabinet.specs.Host.{hostList, afterRoute, labelOrCode, hostAnswer}
 
 module _ (N : Network) (source departure destination : ℕ) where
-  pub route-refuses : {number : ℕ} → refused number ≡ routeAnswer N source departure destination hostList → refusalBase + number ≡ labelOrCode N source departure destination
+  pub route-refuses : {number : ℕ} → refused number ≡ routeAnswer N brigade source departure destination hostList → refusalBase + number ≡ labelOrCode N source departure destination
   route-refuses e = rw (← e)
 
-  pub route-arrives : {count arrival : ℕ} → replied count ≡ routeAnswer N source departure destination hostList →
-      some arrival ≡ routeArrival N source departure destination hostList → arrival ≡ labelOrCode N source departure destination
+  -- The label is that of the network as the brigade finds it, which a town's network is.
+  pub route-arrives : {count arrival : ℕ} → replied count ≡ routeAnswer N brigade source departure destination hostList →
+      some arrival ≡ routeArrival N brigade source departure destination hostList →
+      arrival ≡ afterRoute (routeAnswer N brigade source departure destination hostList) (label (networkFor N brigade) source departure destination)
   route-arrives e arrives = rw (← e) (same (rw (← e) at arrives))
     where
       same : {a b : ℕ} → _≡_ {A = Option ℕ} (some a) (some b) → a ≡ b

@@ -9,6 +9,7 @@ use lib.ListN.{replicate}
 use Rattle.model.specs.Limits.{maxJunctions}
 use Rattle.model.specs.Ticks.{day}
 use Rattle.model.specs.Network.{Network, netOf}
+use Rattle.model.specs.Parties.{brigade}
 use Rattle.model.specs.Walks.{Net, Arrives, ArrivesWaiting}
 use Rattle.model.specs.Demands.{label}
 use Rattle.refusals.specs.Refusals.{refusalBase}
@@ -32,9 +33,9 @@ abbrev pub afterRoute : Outcome ℕ → ℕ → ℕ
 afterRoute (refused number) next = refusalBase + number
 afterRoute (replied count) next = next
 
--- "Answers as Route with enough space for the route."
+-- "Answers as Route with enough space for the route." A town has no closures, so that the brigade, which asks, finds it as it is.
 abbrev pub labelOrCode : Network → ℕ → ℕ → ℕ → ℕ
-labelOrCode N source departure destination = afterRoute (routeAnswer N source departure destination hostList) (label N source departure destination)
+labelOrCode N source departure destination = afterRoute (routeAnswer N brigade source departure destination hostList) (label N source departure destination)
 
 unfoldable pub hostAnswer : List ℕ → ℕ → ℕ → ℕ → ℕ
 hostAnswer text source departure destination = afterLoad (loadAnswer text roomyTables) (labelOrCode (networkOf (townOf text)) source departure destination)
@@ -50,7 +51,7 @@ pub data HostRefusal : ℕ → Type 0 where
   unreached : HostRefusal 13
 
 -- Of a text of bytes the host question ends in no other refusal: its tables and its list are never too short (28, 14), and no town's network is
--- refused (1 to 8, 32), nor its empty list of closures (36, 37).
+-- refused (1 to 8, 32), nor its empty list of closures (36 to 38), nor the brigade (39).
 abbrev pub HostRefusesOnly : Type 0
 HostRefusesOnly = (text : List ℕ) → Bytes text → (source departure destination number : ℕ) →
     hostAnswer text source departure destination ≡ refusalBase + number → HostRefusal number

@@ -1,5 +1,6 @@
 // Host question: the destination's label in the town that a text describes, or a refusal's code.
 ghost use mathlib.Core.Path.{_≡_};
+ghost use Rattle.model.specs.Parties.{brigade};
 ghost use Rattle.townfile.specs.Load.{counts, LongEnough, networkAt};
 ghost use Rattle.townfile.specs.Lent.{lentTables, tablesIn};
 ghost use Rattle.loading.specs.Loaded.{readingOf};
@@ -10,6 +11,7 @@ use loading::load::load;
 use model::limit::MAX_ARCS;
 use model::limit::MAX_INTERVALS;
 use model::limit::MAX_JUNCTIONS;
+use model::party::BRIGADE;
 use model::tick::Tick;
 use routing::route::Routed;
 use routing::route::route;
@@ -60,13 +62,13 @@ fn route_in_tables(
 ) -> Routed
     requires { ⌜ LongEnough (counts junctions intervals arcs) (tablesIn fences tails heads lengths holds speeds) ⌝ }
     ensures answer { λ r. ⌜ outcomeOf r ≡
-        routeAnswer (networkAt (counts junctions intervals arcs) (lentTables fences tails heads lengths holds speeds)) source departure destination hostList ⌝ }
+        routeAnswer (networkAt (counts junctions intervals arcs) (lentTables fences tails heads lengths holds speeds)) brigade source departure destination hostList ⌝ }
     ensures arrival { λ r. ⌜ arrivalOf r ≡
-        routeArrival (networkAt (counts junctions intervals arcs) (lentTables fences tails heads lengths holds speeds)) source departure destination hostList ⌝ }
+        routeArrival (networkAt (counts junctions intervals arcs) (lentTables fences tails heads lengths holds speeds)) brigade source departure destination hostList ⌝ }
 {
     let speed_count = arcs * intervals;
     let mut list = [0u16; MAX_JUNCTIONS];
-    let no_closures = [[0u32; 3]; 0];
+    let no_closures = [[0u32; 4]; 0];
     route(
         junctions,
         &fences[..intervals],
@@ -76,6 +78,7 @@ fn route_in_tables(
         &holds[..arcs],
         &speeds[..speed_count],
         &no_closures,
+        BRIGADE,
         source,
         Tick { number: departure },
         destination,

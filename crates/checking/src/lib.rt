@@ -1,4 +1,4 @@
-// The tests of the rules, whether tables are a network, whether its closures are taken, and whether a question of it is: what every operation asks first.
+// The tests of the rules, whether tables are a network, whether its closures and who asks are taken, and whether a question of it is: what every operation asks first.
 mod check;
 pub mod closure;
 pub mod highest;

@@ -1,4 +1,4 @@
-// The rules that Labels and Route ask first: the network's own and its closures', and those on the source and the departure.
+// The rules that Labels and Route ask first: the network's own, its closures' and the asker's, and those on the source and the departure.
 ghost use mathlib.Core.Path.{_≡_};
 ghost use Rattle.model.specs.Lent.{lentNetwork, lentClosures};
 ghost use Rattle.checking.specs.NetworkCheck.{outcomeOf};
@@ -16,11 +16,12 @@ pub fn question_check(
     lengths: &[u32],
     holds: &[u16],
     speeds: &[u8],
-    closures: &[[u32; 3]],
+    closures: &[[u32; 4]],
+    asker: u32,
     source: u32,
     tick: u32,
 ) -> NetworkCheck
-    ensures { λ r. ⌜ outcomeOf r ≡ questionCheck (lentNetwork junctions fences tails heads lengths holds speeds (lentClosures closures)) source tick ⌝ }
+    ensures { λ r. ⌜ outcomeOf r ≡ questionCheck (lentNetwork junctions fences tails heads lengths holds speeds (lentClosures closures)) asker source tick ⌝ }
 {
     if let NetworkCheck::Refused(refusal) = closed_network_check(
         junctions,
@@ -31,6 +32,7 @@ pub fn question_check(
         holds,
         speeds,
         closures,
+        asker,
     ) {
         return NetworkCheck::Refused(refusal);
     }

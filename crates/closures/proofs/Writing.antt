@@ -16,7 +16,7 @@ use Rattle.model.proofs.Tests.{leb-cases}
 use Rattle.closures.proofs.Reading.{read-length, read-taken}
 
 abbrev pub rowOf : Closure → List ℕ
-rowOf x = x .arc ∷ x .first ∷ x .end ∷ []
+rowOf x = x .arc ∷ x .first ∷ x .end ∷ x .party ∷ []
 
 pub one-more : (list : List Closure) (rows : List (List ℕ)) (i : ℕ) → i < length list → i < length rows → closuresOf (take i rows) ≡ take i list
     → closuresOf (take (i + 1) (set rows i (rowOf (getD list i noClosure)))) ≡ take (i + 1) list

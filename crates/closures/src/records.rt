@@ -31,6 +31,7 @@ pub fn no_records() -> [Closure; MAX_CLOSURES]
         arc: 0,
         first: 0,
         end: 0,
+        party: 0,
     };
     [none; MAX_CLOSURES]
 }

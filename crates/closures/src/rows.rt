@@ -13,20 +13,19 @@ use model::closure::MAX_CLOSURES;
 // One row more than a question may bring: a list that is too long is refused for that alone, whatever its records are.
 pub const ROWS: usize = 65;
 
-// The records in the first rows.
-pub fn rows_of(closures: Closures) -> [[u32; 3]; ROWS]
-    ensures long { λ r. ⌜ length r ≡ rowCount ⌝ }
-    ensures rows { λ r. ⌜ ((xs : List Closure) → closures ≡ readAll xs → StandFor xs (take (rowsFor (closures .count)) r)) ⌝ }
+// Puts the records into the first rows. The promise is of a table that has its length, which a reference leaves open to the prover.
+pub fn put_rows(closures: Closures, rows: &mut [[u32; 4]; ROWS])
+    ensures long { λ _. ⌜ length (now (rows .exit)) ≡ length (now (rows .entry)) ⌝ }
+    ensures rows { λ _. ⌜ (length (now (rows .entry)) ≡ rowCount → (xs : List Closure) → closures ≡ readAll xs →
+        StandFor xs (take (rowsFor (closures .count)) (now (rows .exit)))) ⌝ }
 {
     let n = capped(closures.count);
-    let mut rows = [[0u32; 3]; ROWS];
     let mut i = 0;
     while i < n {
         let closure = closures.list[i];
-        rows[i] = [closure.arc, closure.first, closure.end];
+        rows[i] = [closure.arc, closure.first, closure.end, closure.party];
         i += 1;
     }
-    rows
 }
 
 // How many of the rows stand for so many closures.

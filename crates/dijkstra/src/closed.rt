@@ -7,7 +7,7 @@ ghost use Rattle.model.specs.Limits.{maxArcs};
 ghost use Rattle.dijkstra.specs.code.Marks.{Marked};
 use model::limit::MAX_ARCS;
 
-pub(crate) fn mark_closed(closures: &[[u32; 3]], closed: &mut [bool; MAX_ARCS])
+pub(crate) fn mark_closed(closures: &[[u32; 4]], closed: &mut [bool; MAX_ARCS])
     requires { ⌜ now closed ≡ replicate maxArcs false ⌝ }
     ensures { λ _. ⌜ Marked (lentClosures closures) (now (closed .exit)) ⌝ }
 {

@@ -56,7 +56,7 @@ fn drive_arc(
     lengths: &[u32],
     holds: &[u16],
     speeds: &[u8],
-    closures: &[[u32; 3]],
+    closures: &[[u32; 4]],
     closed: &[bool; MAX_ARCS],
 ) -> Arrival
     requires { ⌜ HasArc (roadsIn fences lengths holds speeds (closuresIn closures)) arc ⌝ }
@@ -96,7 +96,7 @@ fn offer_arc(
     lengths: &[u32],
     holds: &[u16],
     speeds: &[u8],
-    closures: &[[u32; 3]],
+    closures: &[[u32; 4]],
     closed: &[bool; MAX_ARCS],
     labels: &mut [u32],
     predecessors: &mut [u16],
@@ -150,7 +150,7 @@ pub(crate) fn offer_arcs(
     lengths: &[u32],
     holds: &[u16],
     speeds: &[u8],
-    closures: &[[u32; 3]],
+    closures: &[[u32; 4]],
     closed: &[bool; MAX_ARCS],
     next: &[u16; MAX_ARCS],
     settled: &[bool; MAX_JUNCTIONS],

@@ -18,7 +18,7 @@ pub(crate) fn settle(
     lengths: &[u32],
     holds: &[u16],
     speeds: &[u8],
-    closures: &[[u32; 3]],
+    closures: &[[u32; 4]],
     closed: &[bool; MAX_ARCS],
     first: &[u16; MAX_JUNCTIONS],
     next: &[u16; MAX_ARCS],

@@ -38,7 +38,7 @@ fn lesser(a: u32, b: u32) -> u32
 }
 
 // What one more record makes of a stretch: one that starts later cuts it there, one that contains the tick closes it and cuts it at its end.
-fn with_closure(stretch: Stretch, closure: [u32; 3], arc: u32, tick: u32) -> Stretch
+fn with_closure(stretch: Stretch, closure: [u32; 4], arc: u32, tick: u32) -> Stretch
     ensures { λ r. ⌜ r .closed ≡ (closes? (closureOf closure) arc tick || stretch .closed) ⌝ }
     ensures { λ r. ⌜ r .until ≡ nextEdge (closureOf closure) arc tick (stretch .until) ⌝ }
 {
@@ -61,7 +61,7 @@ fn with_closure(stretch: Stretch, closure: [u32; 3], arc: u32, tick: u32) -> Str
 }
 
 // The stretch from a tick on, up to the limit at most: one scan of the list.
-fn stretch_at(closures: &[[u32; 3]], arc: u32, tick: u32, limit: u32) -> Stretch
+fn stretch_at(closures: &[[u32; 4]], arc: u32, tick: u32, limit: u32) -> Stretch
     ensures { λ r. ⌜ r .closed ≡ closed? (closuresOf (now (closures .entry))) arc tick ⌝ }
     ensures { λ r. ⌜ r .until ≡ sameUntil (closuresOf (now (closures .entry))) arc tick limit ⌝ }
 {
@@ -120,7 +120,7 @@ fn piece_from(
     fences: &[u32],
     speeds: &[u8],
     arc: u32,
-    closures: &[[u32; 3]],
+    closures: &[[u32; 4]],
 ) -> Piece
     requires { ⌜ k < min (length (now fences)) (length (now speeds)) ⌝ }
     ensures { λ r. ⌜ PieceFrom tick k (now (fences .entry)) (now (speeds .entry)) arc (closuresOf (now (closures .entry))) (r .until) (r .speed) (r .end) ⌝ }
@@ -143,7 +143,7 @@ pub fn drive_closed(
     fences: &[u32],
     speeds: &[u8],
     arc: u32,
-    closures: &[[u32; 3]],
+    closures: &[[u32; 4]],
 ) -> Arrival
     ensures { λ r. ⌜ (ArcKept departure interval metres (now (fences .entry)) (now (speeds .entry)) →
         arrivedAt r ≡ tickAndInterval? (now (fences .entry))
@@ -189,7 +189,7 @@ pub fn drive_closed_with_hold(
     fences: &[u32],
     speeds: &[u8],
     arc: u32,
-    closures: &[[u32; 3]],
+    closures: &[[u32; 4]],
 ) -> Arrival
     ensures { λ r. ⌜ (ArcKept departure interval metres (now (fences .entry)) (now (speeds .entry)) →
         arrivedAt r ≡ tickAndInterval? (now (fences .entry))

@@ -27,17 +27,18 @@ fn labels_number(
     holds: &[u16],
     speeds: &[u8],
     closures: Closures,
+    asker: u32,
     source: u32,
     departure: u32,
     labels: &mut [u32],
     predecessors: &mut [u16],
 ) -> u32
     ensures answer { λ r. ⌜ ((xs : List Closure) → closures ≡ readAll xs → r ≡
-        numberOr0 (labelsAnswer (lentNetwork junctions fences tails heads lengths holds speeds xs) source departure (now (labels .entry)) (now (predecessors .entry)))) ⌝ }
+        numberOr0 (labelsAnswer (lentNetwork junctions fences tails heads lengths holds speeds xs) asker source departure (now (labels .entry)) (now (predecessors .entry)))) ⌝ }
     ensures labels { λ _. ⌜ ((xs : List Closure) → closures ≡ readAll xs → now (labels .exit) ≡
-        labelsAfter (lentNetwork junctions fences tails heads lengths holds speeds xs) source departure (now (labels .entry)) (now (predecessors .entry))) ⌝ }
+        labelsAfter (lentNetwork junctions fences tails heads lengths holds speeds xs) asker source departure (now (labels .entry)) (now (predecessors .entry))) ⌝ }
     ensures predecessors { λ _. ⌜ ((xs : List Closure) → closures ≡ readAll xs → now (predecessors .exit) ≡
-        predecessorsAfter (lentNetwork junctions fences tails heads lengths holds speeds xs) source departure (now (labels .entry)) (now (predecessors .entry))) ⌝ }
+        predecessorsAfter (lentNetwork junctions fences tails heads lengths holds speeds xs) asker source departure (now (labels .entry)) (now (predecessors .entry))) ⌝ }
 {
     match labels_read(
         junctions,
@@ -48,6 +49,7 @@ fn labels_number(
         holds,
         speeds,
         closures,
+        asker,
         source,
         Tick { number: departure },
         labels,
@@ -69,6 +71,7 @@ pub extern "C" fn exports_labels(
     holds: &[u16],
     speeds: &[u8],
     closures: &[Closure],
+    asker: u32,
     source: u32,
     departure: u32,
     labels: &mut [u32],
@@ -76,12 +79,12 @@ pub extern "C" fn exports_labels(
 ) -> u32
     ensures answer { λ r. ⌜ r ≡
         numberOr0 (labelsAnswer (lentNetwork junctions fences tails heads lengths holds speeds (now (closures .entry)))
-        source departure (now (labels .entry)) (now (predecessors .entry))) ⌝ }
+        asker source departure (now (labels .entry)) (now (predecessors .entry))) ⌝ }
     ensures labels { λ _. ⌜ now (labels .exit) ≡
-        labelsAfter (lentNetwork junctions fences tails heads lengths holds speeds (now (closures .entry))) source departure (now (labels .entry)) (now (predecessors .entry)) ⌝ }
+        labelsAfter (lentNetwork junctions fences tails heads lengths holds speeds (now (closures .entry))) asker source departure (now (labels .entry)) (now (predecessors .entry)) ⌝ }
     ensures predecessors { λ _. ⌜ now (predecessors .exit) ≡
         predecessorsAfter (lentNetwork junctions fences tails heads lengths holds speeds (now (closures .entry)))
-        source departure (now (labels .entry)) (now (predecessors .entry)) ⌝ }
+        asker source departure (now (labels .entry)) (now (predecessors .entry)) ⌝ }
 {
     let records = read_closures(closures);
     labels_number(
@@ -93,6 +96,7 @@ pub extern "C" fn exports_labels(
         holds,
         speeds,
         records,
+        asker,
         source,
         departure,
         labels,
@@ -109,6 +113,7 @@ fn sheet_number(
     holds: &[u16],
     speeds: &[u8],
     closures: Closures,
+    asker: u32,
     source: u32,
     departures: &[u32],
     labels: &mut [u32],
@@ -116,11 +121,11 @@ fn sheet_number(
 ) -> u32
     ensures answer { λ r. ⌜ ((xs : List Closure) → closures ≡ readAll xs → r ≡
         numberOr0 (sheetAnswer (lentNetwork junctions fences tails heads lengths holds speeds xs)
-        source (now (departures .entry)) (now (labels .entry)) (now (figures .entry)))) ⌝ }
+        asker source (now (departures .entry)) (now (labels .entry)) (now (figures .entry)))) ⌝ }
     ensures labels { λ _. ⌜ ((xs : List Closure) → closures ≡ readAll xs → now (labels .exit) ≡
-        sheetLabelsAfter (lentNetwork junctions fences tails heads lengths holds speeds xs) source (now (departures .entry)) (now (labels .entry)) (now (figures .entry))) ⌝ }
+        sheetLabelsAfter (lentNetwork junctions fences tails heads lengths holds speeds xs) asker source (now (departures .entry)) (now (labels .entry)) (now (figures .entry))) ⌝ }
     ensures figures { λ _. ⌜ ((xs : List Closure) → closures ≡ readAll xs → now (figures .exit) ≡
-        sheetFiguresAfter (lentNetwork junctions fences tails heads lengths holds speeds xs) source (now (departures .entry)) (now (labels .entry)) (now (figures .entry))) ⌝ }
+        sheetFiguresAfter (lentNetwork junctions fences tails heads lengths holds speeds xs) asker source (now (departures .entry)) (now (labels .entry)) (now (figures .entry))) ⌝ }
 {
     match sheet_read(
         junctions,
@@ -131,6 +136,7 @@ fn sheet_number(
         holds,
         speeds,
         closures,
+        asker,
         source,
         departures,
         labels,
@@ -152,6 +158,7 @@ pub extern "C" fn exports_sheet(
     holds: &[u16],
     speeds: &[u8],
     closures: &[Closure],
+    asker: u32,
     source: u32,
     departures: &[u32],
     labels: &mut [u32],
@@ -159,13 +166,13 @@ pub extern "C" fn exports_sheet(
 ) -> u32
     ensures answer { λ r. ⌜ r ≡
         numberOr0 (sheetAnswer (lentNetwork junctions fences tails heads lengths holds speeds (now (closures .entry)))
-        source (now (departures .entry)) (now (labels .entry)) (now (figures .entry))) ⌝ }
+        asker source (now (departures .entry)) (now (labels .entry)) (now (figures .entry))) ⌝ }
     ensures labels { λ _. ⌜ now (labels .exit) ≡
         sheetLabelsAfter (lentNetwork junctions fences tails heads lengths holds speeds (now (closures .entry)))
-        source (now (departures .entry)) (now (labels .entry)) (now (figures .entry)) ⌝ }
+        asker source (now (departures .entry)) (now (labels .entry)) (now (figures .entry)) ⌝ }
     ensures figures { λ _. ⌜ now (figures .exit) ≡
         sheetFiguresAfter (lentNetwork junctions fences tails heads lengths holds speeds (now (closures .entry)))
-        source (now (departures .entry)) (now (labels .entry)) (now (figures .entry)) ⌝ }
+        asker source (now (departures .entry)) (now (labels .entry)) (now (figures .entry)) ⌝ }
 {
     let records = read_closures(closures);
     sheet_number(
@@ -177,6 +184,7 @@ pub extern "C" fn exports_sheet(
         holds,
         speeds,
         records,
+        asker,
         source,
         departures,
         labels,
@@ -193,15 +201,16 @@ fn route_code(
     holds: &[u16],
     speeds: &[u8],
     closures: Closures,
+    asker: u32,
     source: u32,
     departure: u32,
     destination: u32,
     arcs: &mut [u16],
 ) -> u32
     ensures answer { λ r. ⌜ ((xs : List Closure) → closures ≡ readAll xs → r ≡
-        countCode (routeAnswer (lentNetwork junctions fences tails heads lengths holds speeds xs) source departure destination (now (arcs .entry)))) ⌝ }
+        countCode (routeAnswer (lentNetwork junctions fences tails heads lengths holds speeds xs) asker source departure destination (now (arcs .entry)))) ⌝ }
     ensures arcs { λ _. ⌜ ((xs : List Closure) → closures ≡ readAll xs → now (arcs .exit) ≡
-        arcsAfter (lentNetwork junctions fences tails heads lengths holds speeds xs) source departure destination (now (arcs .entry))) ⌝ }
+        arcsAfter (lentNetwork junctions fences tails heads lengths holds speeds xs) asker source departure destination (now (arcs .entry))) ⌝ }
 {
     match route_read(
         junctions,
@@ -212,6 +221,7 @@ fn route_code(
         holds,
         speeds,
         closures,
+        asker,
         source,
         Tick { number: departure },
         destination,
@@ -233,15 +243,16 @@ pub extern "C" fn exports_route(
     holds: &[u16],
     speeds: &[u8],
     closures: &[Closure],
+    asker: u32,
     source: u32,
     departure: u32,
     destination: u32,
     arcs: &mut [u16],
 ) -> u32
     ensures answer { λ r. ⌜ r ≡
-        countCode (routeAnswer (lentNetwork junctions fences tails heads lengths holds speeds (now (closures .entry))) source departure destination (now (arcs .entry))) ⌝ }
+        countCode (routeAnswer (lentNetwork junctions fences tails heads lengths holds speeds (now (closures .entry))) asker source departure destination (now (arcs .entry))) ⌝ }
     ensures arcs { λ _. ⌜ now (arcs .exit) ≡
-        arcsAfter (lentNetwork junctions fences tails heads lengths holds speeds (now (closures .entry))) source departure destination (now (arcs .entry)) ⌝ }
+        arcsAfter (lentNetwork junctions fences tails heads lengths holds speeds (now (closures .entry))) asker source departure destination (now (arcs .entry)) ⌝ }
 {
     let records = read_closures(closures);
     route_code(
@@ -253,6 +264,7 @@ pub extern "C" fn exports_route(
         holds,
         speeds,
         records,
+        asker,
         source,
         departure,
         destination,

@@ -34,24 +34,24 @@ front-written n entries table long =
     (λ not-shorter. rw (drop-of-length-le table {i = length entries} (omega arith), append-nil) (take-all n entries (omega arith)))
 
 -- Labels leaves as many entries as it was lent, so that the front of each buffer is what it leaves there.
-module _ (N : Network) (source departure : ℕ) (labels predecessors : List ℕ) where
-  tables-long : (length (labelsAfter N source departure labels predecessors) ≡ length labels)
-      × (length (predecessorsAfter N source departure labels predecessors) ≡ length predecessors)
-  tables-long = go (labelsAnswer N source departure labels predecessors) refl
+module _ (N : Network) (asker source departure : ℕ) (labels predecessors : List ℕ) where
+  tables-long : (length (labelsAfter N asker source departure labels predecessors) ≡ length labels)
+      × (length (predecessorsAfter N asker source departure labels predecessors) ≡ length predecessors)
+  tables-long = go (labelsAnswer N asker source departure labels predecessors) refl
     where
-      go : (outcome : Outcome (Unit {0})) → labelsAnswer N source departure labels predecessors ≡ outcome →
-          (length (labelsAfter N source departure labels predecessors) ≡ length labels)
-          × (length (predecessorsAfter N source departure labels predecessors) ≡ length predecessors)
+      go : (outcome : Outcome (Unit {0})) → labelsAnswer N asker source departure labels predecessors ≡ outcome →
+          (length (labelsAfter N asker source departure labels predecessors) ≡ length labels)
+          × (length (predecessorsAfter N asker source departure labels predecessors) ≡ length predecessors)
       go (refused number) e = rw e (refl, refl)
       go (replied tt) e =
-          let tables = demand-2-of-call N source departure labels predecessors e .1 in
-          let asked = answered N source departure labels predecessors e in
+          let tables = demand-2-of-call N asker source departure labels predecessors e .1 in
+          let asked = answered N asker source departure labels predecessors e .1 in
           (tables .labels-long ∙ sym (asked .labels-long), tables .predecessors-long ∙ sym (asked .predecessors-long))
 
-module _ (N : Network) (source departure : ℕ) (labels predecessors : List ℕ) where
-  pub labels-front : front N (labelsWithin N source departure labels predecessors) ≡ labelsAfter N source departure (front N labels) (front N predecessors)
-  labels-front = front-written (N .junctions) _ labels (tables-long N source departure (front N labels) (front N predecessors) .0)
+module _ (N : Network) (asker source departure : ℕ) (labels predecessors : List ℕ) where
+  pub labels-front : front N (labelsWithin N asker source departure labels predecessors) ≡ labelsAfter N asker source departure (front N labels) (front N predecessors)
+  labels-front = front-written (N .junctions) _ labels (tables-long N asker source departure (front N labels) (front N predecessors) .0)
 
-  pub predecessors-front : front N (predecessorsWithin N source departure labels predecessors)
-      ≡ predecessorsAfter N source departure (front N labels) (front N predecessors)
-  predecessors-front = front-written (N .junctions) _ predecessors (tables-long N source departure (front N labels) (front N predecessors) .1)
+  pub predecessors-front : front N (predecessorsWithin N asker source departure labels predecessors)
+      ≡ predecessorsAfter N asker source departure (front N labels) (front N predecessors)
+  predecessors-front = front-written (N .junctions) _ predecessors (tables-long N asker source departure (front N labels) (front N predecessors) .1)

@@ -1,6 +1,7 @@
 -- "Labels (network, source, departure, lent labels and predecessors). 1 to 8; 9, source not below the junction count; 10,
 -- departure 864,000 or above; 11, either lent buffer not exactly as long as the junction count. Otherwise both buffers hold
--- every junction's label and predecessor." By document 02, order 5, 32 stands after 8, and by order 7, 36 and 37 after it.
+-- every junction's label and predecessor." By document 02, order 5, 32 stands after 8, and by orders 7 and 8, 36 to 39 after
+-- it. The network has the whole list of closures; what is reckoned is reckoned on the network as the asker finds it.
 use Prim.Native.Nat.{ℕ}
 use mathlib.Core.Path.{_≡_}
 use mathlib.Core.Bool.{not, _&&_}
@@ -10,7 +11,8 @@ use lib.Dec.{eqb}
 use lib.ListN.{length, getD}
 use Rattle.model.specs.Ticks.{never}
 use Rattle.model.specs.Closures.{Closed}
-use Rattle.model.specs.Network.{Network, closedBy, netOf}
+use Rattle.model.specs.Network.{Network, closedBy, networkFor, netOf}
+use Rattle.model.specs.Parties.{KnownAsker, closuresFor}
 use Rattle.model.specs.declared.closure.Closure.{Closure}
 use Rattle.model.specs.Labels.{labelsOf, predecessorsOf, Certified, Lowest}
 use Rattle.model.specs.Walks.{Earliest}
@@ -30,34 +32,38 @@ outcomeOf (Refused refusal) = refused (numberOf refusal)
 abbrev pub bufferRules : Network → List ℕ → List ℕ → List Rule
 bufferRules N labels predecessors = (11 if not (eqb (length labels) (N .junctions) && eqb (length predecessors) (N .junctions))) ∷ []
 
-unfoldable pub labelsAnswer : Network → ℕ → ℕ → List ℕ → List ℕ → Outcome (Unit {0})
-labelsAnswer N source departure labels predecessors = firstBroken (questionRules N source departure ++ bufferRules N labels predecessors) tt
+unfoldable pub labelsAnswer : Network → ℕ → ℕ → ℕ → List ℕ → List ℕ → Outcome (Unit {0})
+labelsAnswer N asker source departure labels predecessors = firstBroken (questionRules N asker source departure ++ bufferRules N labels predecessors) tt
 
-abbrev pub labelsAfter : Network → ℕ → ℕ → List ℕ → List ℕ → List ℕ
-labelsAfter N source departure labels predecessors = after (labelsAnswer N source departure labels predecessors) (labelsOf (netOf N) source departure) labels
+abbrev pub labelsAfter : Network → ℕ → ℕ → ℕ → List ℕ → List ℕ → List ℕ
+labelsAfter N asker source departure labels predecessors =
+    after (labelsAnswer N asker source departure labels predecessors) (labelsOf (netOf (networkFor N asker)) source departure) labels
 
-abbrev pub predecessorsAfter : Network → ℕ → ℕ → List ℕ → List ℕ → List ℕ
-predecessorsAfter N source departure labels predecessors = after (labelsAnswer N source departure labels predecessors) (predecessorsOf (netOf N) source departure) predecessors
+abbrev pub predecessorsAfter : Network → ℕ → ℕ → ℕ → List ℕ → List ℕ → List ℕ
+predecessorsAfter N asker source departure labels predecessors =
+    after (labelsAnswer N asker source departure labels predecessors) (predecessorsOf (netOf (networkFor N asker)) source departure) predecessors
 
 -- ---- What is proved of it
 
--- Labels replies exactly where the question is taken and the buffers have the right length.
+-- Labels replies exactly where the asker is known, the question is taken and the buffers have the right length.
 abbrev pub LabelsRepliesWhenLabelable : Type 0
-LabelsRepliesWhenLabelable = (N : Network) (source departure : ℕ) (labels predecessors : List ℕ) →
-    (labelsAnswer N source departure labels predecessors ≡ replied tt) ↔ Labelable N source departure labels predecessors
+LabelsRepliesWhenLabelable = (N : Network) (asker source departure : ℕ) (labels predecessors : List ℕ) →
+    (labelsAnswer N asker source departure labels predecessors ≡ replied tt) ↔ (KnownAsker asker × Labelable N source departure labels predecessors)
 
 -- Demand 2 of the buffers that a call which replies leaves: the labels are the earliest arrivals over all walks, and the two
 -- tables satisfy the conditions that no other tables do.
 abbrev pub Demand2OfCall : Type 0
-Demand2OfCall = (N : Network) (source departure : ℕ) (labels predecessors : List ℕ) → labelsAnswer N source departure labels predecessors ≡ replied tt →
-    Earliest (netOf N) source departure (λ j. getD (labelsAfter N source departure labels predecessors) j never)
-    × Certified (netOf N) source departure (labelsAfter N source departure labels predecessors) (predecessorsAfter N source departure labels predecessors)
-    × Lowest (netOf N) source (labelsAfter N source departure labels predecessors) (predecessorsAfter N source departure labels predecessors)
+Demand2OfCall = (N : Network) (asker source departure : ℕ) (labels predecessors : List ℕ) → labelsAnswer N asker source departure labels predecessors ≡ replied tt →
+    let net = netOf (networkFor N asker) in
+    let labels′ = labelsAfter N asker source departure labels predecessors in
+    let predecessors′ = predecessorsAfter N asker source departure labels predecessors in
+    Earliest net source departure (λ j. getD labels′ j never) × Certified net source departure labels′ predecessors′ × Lowest net source labels′ predecessors′
 
--- Of two calls that both reply, on networks whose lists of closures close the same ticks of the same arcs: they leave the same buffers.
+-- Of two calls of one asker that both reply, on networks whose lists close the same ticks of the same arcs to it: they leave the same buffers.
 abbrev pub SameClosedOfCall : Type 0
-SameClosedOfCall = (N : Network) (closures : List Closure) → ((a t : ℕ) → Closed (N .closures) a t ↔ Closed closures a t) →
-    (source departure : ℕ) (labels predecessors : List ℕ) →
-    labelsAnswer N source departure labels predecessors ≡ replied tt → labelsAnswer (closedBy N closures) source departure labels predecessors ≡ replied tt →
-    (labelsAfter N source departure labels predecessors ≡ labelsAfter (closedBy N closures) source departure labels predecessors)
-    × (predecessorsAfter N source departure labels predecessors ≡ predecessorsAfter (closedBy N closures) source departure labels predecessors)
+SameClosedOfCall = (N : Network) (closures : List Closure) (asker : ℕ) →
+    ((a t : ℕ) → Closed (closuresFor asker (N .closures)) a t ↔ Closed (closuresFor asker closures) a t) → (source departure : ℕ) (labels predecessors : List ℕ) →
+    let M = closedBy N closures in
+    labelsAnswer N asker source departure labels predecessors ≡ replied tt → labelsAnswer M asker source departure labels predecessors ≡ replied tt →
+    (labelsAfter N asker source departure labels predecessors ≡ labelsAfter M asker source departure labels predecessors)
+    × (predecessorsAfter N asker source departure labels predecessors ≡ predecessorsAfter M asker source departure labels predecessors)

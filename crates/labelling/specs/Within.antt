@@ -10,12 +10,12 @@ use Rattle.labelling.specs.Labels.{labelsAnswer, labelsAfter, predecesso
 abbrev pub front : Network → List ℕ → List ℕ
 front N buffer = take (N .junctions) buffer
 
-abbrev pub answerWithin : Network → ℕ → ℕ → List ℕ → List ℕ → Outcome (Unit {0})
-answerWithin N source departure labels predecessors = labelsAnswer N source departure (front N labels) (front N predecessors)
+abbrev pub answerWithin : Network → ℕ → ℕ → ℕ → List ℕ → List ℕ → Outcome (Unit {0})
+answerWithin N asker source departure labels predecessors = labelsAnswer N asker source departure (front N labels) (front N predecessors)
 
 -- What each buffer holds afterwards, whole: where the call is refused, what it held before.
-abbrev pub labelsWithin : Network → ℕ → ℕ → List ℕ → List ℕ → List ℕ
-labelsWithin N source departure labels predecessors = written (labelsAfter N source departure (front N labels) (front N predecessors)) labels
+abbrev pub labelsWithin : Network → ℕ → ℕ → ℕ → List ℕ → List ℕ → List ℕ
+labelsWithin N asker source departure labels predecessors = written (labelsAfter N asker source departure (front N labels) (front N predecessors)) labels
 
-abbrev pub predecessorsWithin : Network → ℕ → ℕ → List ℕ → List ℕ → List ℕ
-predecessorsWithin N source departure labels predecessors = written (predecessorsAfter N source departure (front N labels) (front N predecessors)) predecessors
+abbrev pub predecessorsWithin : Network → ℕ → ℕ → ℕ → List ℕ → List ℕ → List ℕ
+predecessorsWithin N asker source departure labels predecessors = written (predecessorsAfter N asker source departure (front N labels) (front N predecessors)) predecessors

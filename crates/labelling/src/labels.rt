@@ -4,7 +4,9 @@ ghost use Rattle.model.specs.Lent.{lentNetwork, lentClosures};
 ghost use Rattle.labelling.specs.Labels.{outcomeOf, labelsAnswer, labelsAfter, predecessorsAfter};
 use checking::network::NetworkCheck;
 use checking::question::question_check;
+use closures::stopping::put_stopping;
 use dijkstra::label::label_from;
+use model::closure::MAX_CLOSURES;
 use model::tick::Tick;
 use refusals::refusal::Refusal;
 
@@ -21,7 +23,8 @@ pub fn labels(
     lengths: &[u32],
     holds: &[u16],
     speeds: &[u8],
-    closures: &[[u32; 3]],
+    closures: &[[u32; 4]],
+    asker: u32,
     source: u32,
     departure: Tick,
     labels: &mut [u32],
@@ -29,13 +32,13 @@ pub fn labels(
 ) -> Labelled
     ensures answer { λ r. ⌜ outcomeOf r ≡
         labelsAnswer (lentNetwork junctions fences tails heads lengths holds speeds (lentClosures closures))
-        source (departure .number) (now (labels .entry)) (now (predecessors .entry)) ⌝ }
+        asker source (departure .number) (now (labels .entry)) (now (predecessors .entry)) ⌝ }
     ensures labels { λ _. ⌜ now (labels .exit) ≡
         labelsAfter (lentNetwork junctions fences tails heads lengths holds speeds (lentClosures closures))
-        source (departure .number) (now (labels .entry)) (now (predecessors .entry)) ⌝ }
+        asker source (departure .number) (now (labels .entry)) (now (predecessors .entry)) ⌝ }
     ensures predecessors { λ _. ⌜ now (predecessors .exit) ≡
         predecessorsAfter (lentNetwork junctions fences tails heads lengths holds speeds (lentClosures closures))
-        source (departure .number) (now (labels .entry)) (now (predecessors .entry)) ⌝ }
+        asker source (departure .number) (now (labels .entry)) (now (predecessors .entry)) ⌝ }
 {
     let tick = departure.number;
     if let NetworkCheck::Refused(refusal) = question_check(
@@ -47,6 +50,7 @@ pub fn labels(
         holds,
         speeds,
         closures,
+        asker,
         source,
         tick,
     ) {
@@ -58,6 +62,8 @@ pub fn labels(
     if predecessors.len() != junctions as usize {
         return Labelled::Refused(Refusal::BufferLength);
     }
+    let mut stopping = [[0u32; 4]; MAX_CLOSURES];
+    let stopping_count = put_stopping(asker, closures, &mut stopping);
     label_from(
         junctions as usize,
         fences,
@@ -66,7 +72,7 @@ pub fn labels(
         lengths,
         holds,
         speeds,
-        closures,
+        &stopping[..stopping_count],
         source as usize,
         tick,
         labels,

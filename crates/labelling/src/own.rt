@@ -22,7 +22,8 @@ pub fn labels_within(
     lengths: &[u32],
     holds: &[u16],
     speeds: &[u8],
-    closures: &[[u32; 3]],
+    closures: &[[u32; 4]],
+    asker: u32,
     source: u32,
     departure: Tick,
     labels: &mut [u32],
@@ -30,13 +31,13 @@ pub fn labels_within(
 ) -> Labelled
     ensures answer { λ r. ⌜ outcomeOf r ≡
         answerWithin (lentNetwork junctions fences tails heads lengths holds speeds (lentClosures closures))
-        source (departure .number) (now (labels .entry)) (now (predecessors .entry)) ⌝ }
+        asker source (departure .number) (now (labels .entry)) (now (predecessors .entry)) ⌝ }
     ensures labels { λ _. ⌜ now (labels .exit) ≡
         labelsWithin (lentNetwork junctions fences tails heads lengths holds speeds (lentClosures closures))
-        source (departure .number) (now (labels .entry)) (now (predecessors .entry)) ⌝ }
+        asker source (departure .number) (now (labels .entry)) (now (predecessors .entry)) ⌝ }
     ensures predecessors { λ _. ⌜ now (predecessors .exit) ≡
         predecessorsWithin (lentNetwork junctions fences tails heads lengths holds speeds (lentClosures closures))
-        source (departure .number) (now (labels .entry)) (now (predecessors .entry)) ⌝ }
+        asker source (departure .number) (now (labels .entry)) (now (predecessors .entry)) ⌝ }
 {
     let count = junctions as usize;
     let labelled = lesser(count, labels.len());
@@ -50,6 +51,7 @@ pub fn labels_within(
         holds,
         speeds,
         closures,
+        asker,
         source,
         departure,
         &mut labels[..labelled],

@@ -11,7 +11,7 @@ use lib.Dec.{leb, ltb, eqb}
 use lib.ListN.{length, getD}
 use borrow.Author.Tests.{leb-true, ltb-true, eqb-true, le-leb, lt-ltb, eq-eqb}
 use Rattle.model.specs.Ticks.{last}
-use Rattle.model.specs.Closures.{noClosure, Closes, Closed, closes?, closed?, withClosures, closureKeeps, ClosuresKept, maxClosures}
+use Rattle.model.specs.Closures.{noClosure, Closes, Closed, closes?, closed?, withClosures, closureKeeps, partyKeeps, ClosuresKept, maxClosures, maxParty}
 use Rattle.model.specs.Closures.{ClosedWhenTested, StandsWhileClosed}
 use Rattle.model.specs.Rules.{every}
 use Rattle.model.specs.Network.{speedOn, driveOf, NoClosures}
@@ -30,11 +30,11 @@ tested-closes : (c : Closure) (a t : ℕ) → Closes c a t → closes? c a t ≡
 tested-closes c a t closes =
     both-true (both-true (eq-eqb (c .arc) a (closes .its-arc)) (le-leb (c .first) t (closes .from-first))) (lt-ltb t (c .end) (closes .before-end))
 
-either-true : (a b : Bool) → (a || b) ≡ true → (a ≡ true) ⊎ (b ≡ true)
+pub either-true : (a b : Bool) → (a || b) ≡ true → (a ≡ true) ⊎ (b ≡ true)
 either-true true b e = inl refl
 either-true false b e = inr e
 
-or-true : (a : Bool) {b : Bool} → b ≡ true → (a || b) ≡ true
+pub or-true : (a : Bool) {b : Bool} → b ≡ true → (a || b) ≡ true
 or-true true e = refl
 or-true false e = e
 
@@ -91,12 +91,14 @@ closure-kept arcs c e =
     let parts = true-three (ltb (c .arc) arcs) (ltb (c .first) (c .end)) (leb (c .end) last) e in
     (ltb-true (c .arc) arcs (parts .0), ltb-true (c .first) (c .end) (parts .1), leb-true (c .end) last (parts .2))
 
-pub closures-kept : (arcs : ℕ) (closures : List Closure) → length closures ≤ maxClosures → every (closureKeeps arcs) closures ≡ true → ClosuresKept arcs closures
-closures-kept arcs closures few e = record {
+pub closures-kept : (arcs : ℕ) (closures : List Closure) → length closures ≤ maxClosures → every (closureKeeps arcs) closures ≡ true → every partyKeeps closures ≡ true →
+    ClosuresKept arcs closures
+closures-kept arcs closures few e parties = record {
   at-most = few;
   known-arc = λ k inside. record-kept k inside .0;
   first-below-end = λ k inside. record-kept k inside .1;
   by-last = λ k inside. record-kept k inside .2;
+  known-party = λ k inside. leb-true _ maxParty (every-at partyKeeps noClosure closures parties k inside);
 }
   where
     record-kept : (k : ℕ) → k < length closures → Kept arcs (getD closures k noClosure)
@@ -107,3 +109,6 @@ kept-closures arcs closures kept =
     at-every (closureKeeps arcs) noClosure closures
     (λ k inside.
     both-true (both-true (lt-ltb _ arcs (kept .known-arc k inside)) (lt-ltb _ _ (kept .first-below-end k inside))) (le-leb _ last (kept .by-last k inside)))
+
+pub kept-parties : (arcs : ℕ) (closures : List Closure) → ClosuresKept arcs closures → every partyKeeps closures ≡ true
+kept-parties arcs closures kept = at-every partyKeeps noClosure closures (λ k inside. le-leb _ maxParty (kept .known-party k inside))

@@ -14,6 +14,7 @@ pub mod Least
 pub mod NetworkRules
 pub mod Networks
 pub mod OnlyTables
+pub mod Parties
 pub mod Passed
 pub mod Pieces
 pub mod Predecessors

@@ -1,6 +1,6 @@
 -- Document 02, order 7: "The closures come as a list of records, each with an arc, a first tick and an end tick, 64 at most. From the first tick
 -- up to but not including the end tick, the speed on that arc is 0; a vehicle already on it stands. These are real ticks and do not repeat at
--- midnight."
+-- midnight." Order 8: "Each closure gets a party: 0 for both, 1 for the brigade, 2 for the depot." Whom that stops is in Parties.
 use Prim.Native.Nat.{ℕ, _+_, _≤_, _<_}
 use mathlib.Core.Path.{_≡_}
 use mathlib.Core.Bool.{Bool, true, false, _&&_, _||_, cond}
@@ -14,7 +14,7 @@ use Rattle.model.specs.declared.closure.Closure.{Closure}
 
 -- Stands where a list has no further record. It closes nothing.
 abbrev pub noClosure : Closure
-noClosure = record { arc = 0; first = 0; end = 0 }
+noClosure = record { arc = 0; first = 0; end = 0; party = 0 }
 
 -- A record closes a tick of an arc.
 pub record Closes (c : Closure) (a t : ℕ) : Type 0 where
@@ -48,18 +48,26 @@ maxClosures = 64
 abbrev pub closureKeeps : ℕ → Closure → Bool
 closureKeeps arcs c = ltb (c .arc) arcs && ltb (c .first) (c .end) && leb (c .end) last
 
+-- "38, a record's party above 2."
+abbrev pub maxParty : ℕ
+maxParty = 2
+
+abbrev pub partyKeeps : Closure → Bool
+partyKeeps c = leb (c .party) maxParty
+
 -- The same of the whole list, in plain words.
 pub record ClosuresKept (arcs : ℕ) (closures : List Closure) : Type 0 where
   pub at-most : length closures ≤ maxClosures
   pub known-arc : (k : ℕ) → k < length closures → getD closures k noClosure .arc < arcs
   pub first-below-end : (k : ℕ) → k < length closures → getD closures k noClosure .first < getD closures k noClosure .end
   pub by-last : (k : ℕ) → k < length closures → getD closures k noClosure .end ≤ last
+  pub known-party : (k : ℕ) → k < length closures → getD closures k noClosure .party ≤ maxParty
 
 -- ---- In a flat table
 
--- A closure's row: its arc, its first tick and its end tick.
+-- A closure's row: its arc, its first tick, its end tick and its party.
 abbrev pub closureOf : List ℕ → Closure
-closureOf row = record { arc = getD row 0 0; first = getD row 1 0; end = getD row 2 0 }
+closureOf row = record { arc = getD row 0 0; first = getD row 1 0; end = getD row 2 0; party = getD row 3 0 }
 
 abbrev pub closuresOf : List (List ℕ) → List Closure
 closuresOf rows = map closureOf rows

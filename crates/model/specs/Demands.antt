@@ -36,6 +36,7 @@ OnlyTablesOfNetwork = (N : Network) → Accepted N → (source departure : ℕ) 
 -- Document 02, order 2: "The rules on earliest arrival and on improvement speak of the repeating speeds." Both go by `speedOn`: see `NoTickSlower`.
 -- Order 5: "The improvement rule now also asks that no hold is greater in the second network." Order 7: "For the improvement rule, every tick
 -- closed in the second network on an arc of the first is closed on that arc in the first." It is asked of ticks: the lists may be quite different.
+-- Order 8: "a tick is closed if it is closed to the asker": of a question, both networks are taken as the asker finds them (`networkFor`).
 pub record Improves (A B : Network) : Type 0 where
   pub same-fences : A .fences ≡ B .fences
   pub more-junctions : A .junctions ≤ B .junctions

@@ -8,6 +8,7 @@ pub mod Lent
 pub mod Limits
 pub mod Network
 pub mod NetworkRules
+pub mod Parties
 pub mod Routes
 pub mod Rules
 pub mod Ticks

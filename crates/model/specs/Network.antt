@@ -10,6 +10,7 @@ use Rattle.model.specs.Holds.{arrivalWithHold}
 use Rattle.model.specs.Intervals.{FencesKept, speedAt}
 use Rattle.model.specs.Walks.{Net}
 use Rattle.model.specs.Closures.{withClosures}
+use Rattle.model.specs.Parties.{ClosedTo, closuresFor}
 use Rattle.model.specs.declared.closure.Closure.{Closure}
 
 -- Document 02, order 5: the hold is in "a further lent table in the network beside the lengths". Order 7: the closures are those that a question
@@ -40,6 +41,10 @@ network junctions fences tails heads lengths holds speeds closures = record {
 -- The network with another list of closures.
 abbrev pub closedBy : Network → List Closure → Network
 closedBy N closures = network (N .junctions) (N .fences) (N .tails) (N .heads) (N .lengths) (N .holds) (N .speeds) closures
+
+-- Order 8: a question brings one list for both parties. The network as the asker finds it has the records that stop it.
+abbrev pub networkFor : Network → ℕ → Network
+networkFor N asker = closedBy N (closuresFor asker (N .closures))
 
 -- "The arc count is the length of the tails."
 abbrev pub arcs : Network → ℕ
@@ -117,6 +122,13 @@ abbrev pub NoClosures : Type 0
 NoClosures = (R : Roads) → R .closures ≡ [] → (a : ℕ) →
     ((t : ℕ) → speedOn R a t ≡ speedAt (R .fences) (arcSpeeds R a) t)
     × ((t : ℕ) → driveOf R a t ≡ arrivalWithHold (speedAt (R .fences) (arcSpeeds R a)) (spansOf (getD (R .lengths) a 0)) (getD (R .holds) a 0) t)
+
+-- "The asker (..) is stopped only by its own closures and those of party 0": at a tick that is closed to it the speed is 0, and at every other it is
+-- the plan's.
+abbrev pub SpeedForAsker : Type 0
+SpeedForAsker = (N : Network) (asker a t : ℕ) →
+    let speed = speedOn (roadsOf (networkFor N asker)) a t in
+    (ClosedTo asker (N .closures) a t → speed ≡ 0) × ((ClosedTo asker (N .closures) a t → ⊥) → speed ≡ speedAt (N .fences) (speedsOf N a) t)
 
 -- Without closures, which do not repeat at midnight: who leaves an arc's tail a day later arrives a day later, if that is by the last tick, and
 -- else never.

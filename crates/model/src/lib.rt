@@ -3,4 +3,5 @@
 pub mod closure;
 pub mod label;
 pub mod limit;
+pub mod party;
 pub mod tick;

@@ -6,8 +6,9 @@ ghost use Rattle.closures.specs.Records.{readAll};
 ghost use Rattle.labelling.specs.Labels.{outcomeOf, labelsAnswer, labelsAfter, predecessorsAfter};
 use closures::records::Closures;
 use closures::records::read_closures;
+use closures::rows::ROWS;
+use closures::rows::put_rows;
 use closures::rows::row_count;
-use closures::rows::rows_of;
 use labelling::labels::Labelled;
 use model::closure::Closure;
 use model::tick::Tick;
@@ -22,19 +23,21 @@ pub fn labels_read(
     holds: &[u16],
     speeds: &[u8],
     closures: Closures,
+    asker: u32,
     source: u32,
     departure: Tick,
     labels: &mut [u32],
     predecessors: &mut [u16],
 ) -> Labelled
     ensures answer { λ r. ⌜ ((xs : List Closure) → closures ≡ readAll xs → outcomeOf r ≡
-        labelsAnswer (lentNetwork junctions fences tails heads lengths holds speeds xs) source (departure .number) (now (labels .entry)) (now (predecessors .entry))) ⌝ }
+        labelsAnswer (lentNetwork junctions fences tails heads lengths holds speeds xs) asker source (departure .number) (now (labels .entry)) (now (predecessors .entry))) ⌝ }
     ensures labels { λ _. ⌜ ((xs : List Closure) → closures ≡ readAll xs → now (labels .exit) ≡
-        labelsAfter (lentNetwork junctions fences tails heads lengths holds speeds xs) source (departure .number) (now (labels .entry)) (now (predecessors .entry))) ⌝ }
+        labelsAfter (lentNetwork junctions fences tails heads lengths holds speeds xs) asker source (departure .number) (now (labels .entry)) (now (predecessors .entry))) ⌝ }
     ensures predecessors { λ _. ⌜ ((xs : List Closure) → closures ≡ readAll xs → now (predecessors .exit) ≡
-        predecessorsAfter (lentNetwork junctions fences tails heads lengths holds speeds xs) source (departure .number) (now (labels .entry)) (now (predecessors .entry))) ⌝ }
+        predecessorsAfter (lentNetwork junctions fences tails heads lengths holds speeds xs) asker source (departure .number) (now (labels .entry)) (now (predecessors .entry))) ⌝ }
 {
-    let rows = rows_of(closures);
+    let mut rows = [[0u32; 4]; ROWS];
+    put_rows(closures, &mut rows);
     let count = row_count(closures.count);
     labelling::labels::labels(
         junctions,
@@ -45,6 +48,7 @@ pub fn labels_read(
         holds,
         speeds,
         &rows[..count],
+        asker,
         source,
         departure,
         labels,
@@ -61,6 +65,7 @@ pub fn labels(
     holds: &[u16],
     speeds: &[u8],
     closures: &[Closure],
+    asker: u32,
     source: u32,
     departure: Tick,
     labels: &mut [u32],
@@ -68,13 +73,13 @@ pub fn labels(
 ) -> Labelled
     ensures answer { λ r. ⌜ outcomeOf r ≡
         labelsAnswer (lentNetwork junctions fences tails heads lengths holds speeds (now (closures .entry)))
-        source (departure .number) (now (labels .entry)) (now (predecessors .entry)) ⌝ }
+        asker source (departure .number) (now (labels .entry)) (now (predecessors .entry)) ⌝ }
     ensures labels { λ _. ⌜ now (labels .exit) ≡
         labelsAfter (lentNetwork junctions fences tails heads lengths holds speeds (now (closures .entry)))
-        source (departure .number) (now (labels .entry)) (now (predecessors .entry)) ⌝ }
+        asker source (departure .number) (now (labels .entry)) (now (predecessors .entry)) ⌝ }
     ensures predecessors { λ _. ⌜ now (predecessors .exit) ≡
         predecessorsAfter (lentNetwork junctions fences tails heads lengths holds speeds (now (closures .entry)))
-        source (departure .number) (now (labels .entry)) (now (predecessors .entry)) ⌝ }
+        asker source (departure .number) (now (labels .entry)) (now (predecessors .entry)) ⌝ }
 {
     let records = read_closures(closures);
     labels_read(
@@ -86,6 +91,7 @@ pub fn labels(
         holds,
         speeds,
         records,
+        asker,
         source,
         departure,
         labels,

@@ -1,5 +1,5 @@
 // Labels, Route and Sheet as callers see them: the operations of `labelling`, `routing` and `sheeting`, with the closures lent as a slice of
-// records. Each reads the slice by the one function that does, and hands everything else on. It asks nothing of its caller.
+// records, for both parties, and the asker. Each reads the slice by the one function that does, and hands everything else on. It asks nothing of its caller.
 pub mod labels;
 pub mod route;
 pub mod sheet;

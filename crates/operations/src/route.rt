@@ -6,8 +6,9 @@ ghost use Rattle.closures.specs.Records.{readAll};
 ghost use Rattle.routing.specs.Route.{outcomeOf, arrivalOf, routeAnswer, routeArrival, arcsAfter};
 use closures::records::Closures;
 use closures::records::read_closures;
+use closures::rows::ROWS;
+use closures::rows::put_rows;
 use closures::rows::row_count;
-use closures::rows::rows_of;
 use model::closure::Closure;
 use model::tick::Tick;
 use routing::route::Routed;
@@ -22,19 +23,21 @@ pub fn route_read(
     holds: &[u16],
     speeds: &[u8],
     closures: Closures,
+    asker: u32,
     source: u32,
     departure: Tick,
     destination: u32,
     arcs: &mut [u16],
 ) -> Routed
     ensures answer { λ r. ⌜ ((xs : List Closure) → closures ≡ readAll xs → outcomeOf r ≡
-        routeAnswer (lentNetwork junctions fences tails heads lengths holds speeds xs) source (departure .number) destination (now (arcs .entry))) ⌝ }
+        routeAnswer (lentNetwork junctions fences tails heads lengths holds speeds xs) asker source (departure .number) destination (now (arcs .entry))) ⌝ }
     ensures arrival { λ r. ⌜ ((xs : List Closure) → closures ≡ readAll xs → arrivalOf r ≡
-        routeArrival (lentNetwork junctions fences tails heads lengths holds speeds xs) source (departure .number) destination (now (arcs .entry))) ⌝ }
+        routeArrival (lentNetwork junctions fences tails heads lengths holds speeds xs) asker source (departure .number) destination (now (arcs .entry))) ⌝ }
     ensures arcs { λ _. ⌜ ((xs : List Closure) → closures ≡ readAll xs → now (arcs .exit) ≡
-        arcsAfter (lentNetwork junctions fences tails heads lengths holds speeds xs) source (departure .number) destination (now (arcs .entry))) ⌝ }
+        arcsAfter (lentNetwork junctions fences tails heads lengths holds speeds xs) asker source (departure .number) destination (now (arcs .entry))) ⌝ }
 {
-    let rows = rows_of(closures);
+    let mut rows = [[0u32; 4]; ROWS];
+    put_rows(closures, &mut rows);
     let count = row_count(closures.count);
     routing::route::route(
         junctions,
@@ -45,6 +48,7 @@ pub fn route_read(
         holds,
         speeds,
         &rows[..count],
+        asker,
         source,
         departure,
         destination,
@@ -61,6 +65,7 @@ pub fn route(
     holds: &[u16],
     speeds: &[u8],
     closures: &[Closure],
+    asker: u32,
     source: u32,
     departure: Tick,
     destination: u32,
@@ -68,13 +73,13 @@ pub fn route(
 ) -> Routed
     ensures answer { λ r. ⌜ outcomeOf r ≡
         routeAnswer (lentNetwork junctions fences tails heads lengths holds speeds (now (closures .entry)))
-        source (departure .number) destination (now (arcs .entry)) ⌝ }
+        asker source (departure .number) destination (now (arcs .entry)) ⌝ }
     ensures arrival { λ r. ⌜ arrivalOf r ≡
         routeArrival (lentNetwork junctions fences tails heads lengths holds speeds (now (closures .entry)))
-        source (departure .number) destination (now (arcs .entry)) ⌝ }
+        asker source (departure .number) destination (now (arcs .entry)) ⌝ }
     ensures arcs { λ _. ⌜ now (arcs .exit) ≡
         arcsAfter (lentNetwork junctions fences tails heads lengths holds speeds (now (closures .entry)))
-        source (departure .number) destination (now (arcs .entry)) ⌝ }
+        asker source (departure .number) destination (now (arcs .entry)) ⌝ }
 {
     let records = read_closures(closures);
     route_read(
@@ -86,6 +91,7 @@ pub fn route(
         holds,
         speeds,
         records,
+        asker,
         source,
         departure,
         destination,

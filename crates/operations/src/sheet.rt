@@ -6,8 +6,9 @@ ghost use Rattle.closures.specs.Records.{readAll};
 ghost use Rattle.sheeting.specs.Sheet.{outcomeOf, sheetAnswer, sheetLabelsAfter, sheetFiguresAfter};
 use closures::records::Closures;
 use closures::records::read_closures;
+use closures::rows::ROWS;
+use closures::rows::put_rows;
 use closures::rows::row_count;
-use closures::rows::rows_of;
 use model::closure::Closure;
 use sheeting::sheet::Sheeted;
 
@@ -21,19 +22,21 @@ pub fn sheet_read(
     holds: &[u16],
     speeds: &[u8],
     closures: Closures,
+    asker: u32,
     source: u32,
     departures: &[u32],
     labels: &mut [u32],
     figures: &mut [u32],
 ) -> Sheeted
     ensures answer { λ r. ⌜ ((xs : List Closure) → closures ≡ readAll xs → outcomeOf r ≡
-        sheetAnswer (lentNetwork junctions fences tails heads lengths holds speeds xs) source (now (departures .entry)) (now (labels .entry)) (now (figures .entry))) ⌝ }
+        sheetAnswer (lentNetwork junctions fences tails heads lengths holds speeds xs) asker source (now (departures .entry)) (now (labels .entry)) (now (figures .entry))) ⌝ }
     ensures labels { λ _. ⌜ ((xs : List Closure) → closures ≡ readAll xs → now (labels .exit) ≡
-        sheetLabelsAfter (lentNetwork junctions fences tails heads lengths holds speeds xs) source (now (departures .entry)) (now (labels .entry)) (now (figures .entry))) ⌝ }
+        sheetLabelsAfter (lentNetwork junctions fences tails heads lengths holds speeds xs) asker source (now (departures .entry)) (now (labels .entry)) (now (figures .entry))) ⌝ }
     ensures figures { λ _. ⌜ ((xs : List Closure) → closures ≡ readAll xs → now (figures .exit) ≡
-        sheetFiguresAfter (lentNetwork junctions fences tails heads lengths holds speeds xs) source (now (departures .entry)) (now (labels .entry)) (now (figures .entry))) ⌝ }
+        sheetFiguresAfter (lentNetwork junctions fences tails heads lengths holds speeds xs) asker source (now (departures .entry)) (now (labels .entry)) (now (figures .entry))) ⌝ }
 {
-    let rows = rows_of(closures);
+    let mut rows = [[0u32; 4]; ROWS];
+    put_rows(closures, &mut rows);
     let count = row_count(closures.count);
     sheeting::sheet::sheet(
         junctions,
@@ -44,6 +47,7 @@ pub fn sheet_read(
         holds,
         speeds,
         &rows[..count],
+        asker,
         source,
         departures,
         labels,
@@ -60,6 +64,7 @@ pub fn sheet(
     holds: &[u16],
     speeds: &[u8],
     closures: &[Closure],
+    asker: u32,
     source: u32,
     departures: &[u32],
     labels: &mut [u32],
@@ -67,13 +72,13 @@ pub fn sheet(
 ) -> Sheeted
     ensures answer { λ r. ⌜ outcomeOf r ≡
         sheetAnswer (lentNetwork junctions fences tails heads lengths holds speeds (now (closures .entry)))
-        source (now (departures .entry)) (now (labels .entry)) (now (figures .entry)) ⌝ }
+        asker source (now (departures .entry)) (now (labels .entry)) (now (figures .entry)) ⌝ }
     ensures labels { λ _. ⌜ now (labels .exit) ≡
         sheetLabelsAfter (lentNetwork junctions fences tails heads lengths holds speeds (now (closures .entry)))
-        source (now (departures .entry)) (now (labels .entry)) (now (figures .entry)) ⌝ }
+        asker source (now (departures .entry)) (now (labels .entry)) (now (figures .entry)) ⌝ }
     ensures figures { λ _. ⌜ now (figures .exit) ≡
         sheetFiguresAfter (lentNetwork junctions fences tails heads lengths holds speeds (now (closures .entry)))
-        source (now (departures .entry)) (now (labels .entry)) (now (figures .entry)) ⌝ }
+        asker source (now (departures .entry)) (now (labels .entry)) (now (figures .entry)) ⌝ }
 {
     let records = read_closures(closures);
     sheet_read(
@@ -85,6 +90,7 @@ pub fn sheet(
         holds,
         speeds,
         records,
+        asker,
         source,
         departures,
         labels,

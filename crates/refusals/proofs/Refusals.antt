@@ -7,7 +7,7 @@ use Rattle.refusals.specs.declared.refusal.Refusal.the-variants.{Junctio
 use Rattle.refusals.specs.declared.refusal.Refusal.the-variants.{Source, Departure, BufferLength, Destination, Unreached, ArcListLength, DepartureAfterLast}
 use Rattle.refusals.specs.declared.refusal.Refusal.the-variants.{TextLength, NoLineFeed, LineLength, UnknownMark, MarkOutOfTurn}
 use Rattle.refusals.specs.declared.refusal.Refusal.the-variants.{FieldForm, FieldValue, LineMissing, TableTooShort}
-use Rattle.refusals.specs.declared.refusal.Refusal.the-variants.{FormAlready, HoldDropped, OutputLength, ClosureCount, Closure}
+use Rattle.refusals.specs.declared.refusal.Refusal.the-variants.{FormAlready, HoldDropped, OutputLength, ClosureCount, Closure, ClosureParty, Asker}
 use Rattle.refusals.specs.declared.refusal.Refusal.the-variants.{DepartureCount, SheetLength, DepartureInterval}
 
 pub number-fits : (refusal : Refusal) → numberOf refusal < 100
@@ -43,4 +43,6 @@ number-fits HoldDropped = omega arith
 number-fits OutputLength = omega arith
 number-fits ClosureCount = omega arith
 number-fits Closure = omega arith
+number-fits ClosureParty = omega arith
+number-fits Asker = omega arith
 number-fits DepartureInterval = omega arith

@@ -5,7 +5,7 @@ use Rattle.refusals.specs.declared.refusal.Refusal.the-variants.{Junctio
 use Rattle.refusals.specs.declared.refusal.Refusal.the-variants.{Source, Departure, BufferLength, Destination, Unreached, ArcListLength, DepartureAfterLast}
 use Rattle.refusals.specs.declared.refusal.Refusal.the-variants.{TextLength, NoLineFeed, LineLength, UnknownMark, MarkOutOfTurn}
 use Rattle.refusals.specs.declared.refusal.Refusal.the-variants.{FieldForm, FieldValue, LineMissing, TableTooShort}
-use Rattle.refusals.specs.declared.refusal.Refusal.the-variants.{FormAlready, HoldDropped, OutputLength, ClosureCount, Closure}
+use Rattle.refusals.specs.declared.refusal.Refusal.the-variants.{FormAlready, HoldDropped, OutputLength, ClosureCount, Closure, ClosureParty, Asker}
 use Rattle.refusals.specs.declared.refusal.Refusal.the-variants.{DepartureCount, SheetLength, DepartureInterval}
 
 abbrev pub numberOf : Refusal → ℕ
@@ -41,6 +41,8 @@ numberOf HoldDropped = 34
 numberOf OutputLength = 35
 numberOf ClosureCount = 36
 numberOf Closure = 37
+numberOf ClosureParty = 38
+numberOf Asker = 39
 numberOf DepartureInterval = 46
 
 -- "As 4,294,900,000 + its number": a refusal's code is this and its number.

@@ -14,9 +14,11 @@ pub enum Refusal {
     Length,
     Speed,
     Hold,
-    // The closures'.
+    // The closures', and who asks.
     ClosureCount,
     Closure,
+    ClosureParty,
+    Asker,
     // The question's.
     Source,
     Departure,
@@ -87,6 +89,8 @@ impl Refusal {
             Refusal::OutputLength => 35,
             Refusal::ClosureCount => 36,
             Refusal::Closure => 37,
+            Refusal::ClosureParty => 38,
+            Refusal::Asker => 39,
             Refusal::DepartureInterval => 46,
         }
     }

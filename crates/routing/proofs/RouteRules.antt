@@ -10,7 +10,7 @@ use lib.Seq.{take-append-seam}
 use borrow.Author.Tests.{not-false, ltb-true, ltb-false, eqb-false, lt-ltb, le-ltb, ne-eqb}
 use Rattle.model.specs.Ticks.{never}
 use Rattle.model.specs.Walks.{start}
-use Rattle.model.specs.Network.{Network, netOf}
+use Rattle.model.specs.Network.{Network, networkFor, netOf}
 use Rattle.model.specs.Demands.{label}
 use Rattle.model.specs.Routes.{routeOf}
 use Rattle.model.specs.Rules.{replied, Rule, firstBroken, AllKept}
@@ -18,34 +18,39 @@ use Rattle.model.proofs.Demands.{demand-2}
 use Rattle.model.proofs.Routes.{demand-2-of-route, route-source}
 use Rattle.model.proofs.Rules.{kept-replies, replies-kept, kept-before, kept-append}
 use Rattle.checking.specs.Question.{questionRules}
-use Rattle.checking.proofs.QuestionRules.{kept-taken, taken-kept}
+use Rattle.checking.proofs.QuestionRules.{kept-taken, taken-kept, taken-for}
 use Rattle.routing.specs.Route.{destinationRules, foundRules, routeAnswer, Routable, RouteRepliesWhenRoutable, Demand2OfRouteCall, RoomForEveryRoute, RouteToSource}
 
-module _ (N : Network) (source departure destination : ℕ) (arcs : List ℕ) where
+module _ (N : Network) (asker source departure destination : ℕ) (arcs : List ℕ) where
+  -- The network as the asker finds it.
+  abbrev M : Network
+  M = networkFor N asker
+
   abbrev pub route : List ℕ
-  route = routeOf (netOf N) source departure destination
+  route = routeOf (netOf M) source departure destination
 
   abbrev question : List Rule
-  question = questionRules N source departure
+  question = questionRules N asker source departure
 
   -- The rules after those of the question: 12 to 14.
   abbrev pub own : List Rule
-  own = destinationRules N destination ++ foundRules N source departure destination arcs
+  own = destinationRules N destination ++ foundRules M source departure destination arcs
 
   -- Where the question is taken they decide.
-  pub own-decides : AllKept question → routeAnswer N source departure destination arcs ≡ firstBroken own (length route)
+  pub own-decides : AllKept question → routeAnswer N asker source departure destination arcs ≡ firstBroken own (length route)
   unfolding routeAnswer
   own-decides taken = kept-before question own (length route) taken
 
-  kept-routable : AllKept question → AllKept own → Routable N source departure destination arcs
+  kept-routable : AllKept question → AllKept own → Routable N asker source departure destination arcs
   kept-routable taken kept = record {
-    taken = kept-taken N source departure taken;
+    known-asker = kept-taken N asker source departure taken .0;
+    taken = kept-taken N asker source departure taken .1;
     destination-below = ltb-true destination (N .junctions) (not-false (ltb destination (N .junctions)) (kept .0));
-    reached = eqb-false (label N source departure destination) never (kept .1 .0);
+    reached = eqb-false (label M source departure destination) never (kept .1 .0);
     long-enough = λ h. omega (arith, ltb-false (length arcs) (length route) (kept .1 .1 .0));
   }
 
-  answered : (count : ℕ) → routeAnswer N source departure destination arcs ≡ replied count → Routable N source departure destination arcs × (count ≡ length route)
+  answered : (count : ℕ) → routeAnswer N asker source departure destination arcs ≡ replied count → Routable N asker source departure destination arcs × (count ≡ length route)
   unfolding routeAnswer
   answered count e =
       let all = replies-kept (question ++ own) (length route) count e in
@@ -53,43 +58,48 @@ module _ (N : Network) (source departure destination : ℕ) (arcs : List ℕ) wh
       let answer = kept-replies (question ++ own) (length route) all in
       (kept-routable (parts .0) (parts .1), cc)
 
-  pub replies : AllKept question → destination < N .junctions → (label N source departure destination ≡ never → ⊥) → length route ≤ length arcs →
-      routeAnswer N source departure destination arcs ≡ replied (length route)
+  pub replies : AllKept question → destination < N .junctions → (label M source departure destination ≡ never → ⊥) → length route ≤ length arcs →
+      routeAnswer N asker source departure destination arcs ≡ replied (length route)
   unfolding firstBroken
   replies taken below reached room =
       own-decides taken
-      ∙ rw (lt-ltb destination (N .junctions) below, ne-eqb (label N source departure destination) never reached, le-ltb (length arcs) (length route) room)
+      ∙ rw (lt-ltb destination (N .junctions) below, ne-eqb (label M source departure destination) never reached, le-ltb (length arcs) (length route) room)
 
-  routable-replies : Routable N source departure destination arcs → routeAnswer N source departure destination arcs ≡ replied (length route)
+  routable-replies : Routable N asker source departure destination arcs → routeAnswer N asker source departure destination arcs ≡ replied (length route)
   routable-replies r =
-      replies (taken-kept N source departure (r .taken)) (r .destination-below) (r .reached) (omega (arith, r .long-enough))
+      replies (taken-kept N asker source departure (r .known-asker) (r .taken)) (r .destination-below) (r .reached) (omega (arith, r .long-enough))
 
 -- ---- The statements
 
 pub route-replies-when-routable : RouteRepliesWhenRoutable
-route-replies-when-routable N source departure destination arcs count = (
-  answered N source departure destination arcs count,
-  (λ h. routable-replies N source departure destination arcs (h .0) ∙ ap replied (sym (h .1))),
+route-replies-when-routable N asker source departure destination arcs count = (
+  answered N asker source departure destination arcs count,
+  (λ h. routable-replies N asker source departure destination arcs (h .0) ∙ ap replied (sym (h .1))),
 )
 
 pub demand-2-of-route-call : Demand2OfRouteCall
-demand-2-of-route-call N source departure destination arcs count e =
-    let a = answered N source departure destination arcs count e in
+demand-2-of-route-call N asker source departure destination arcs count e =
+    let a = answered N asker source departure destination arcs count e in
     let r = a .0 in
-    let t = r .taken in
-    let d = demand-2-of-route N (t .accepted) source departure (t .source-below) (t .departure-below) destination (r .destination-below) (r .reached) in
-    (rw (e, a .1, take-append-seam (route N source departure destination arcs) (drop (length (route N source departure destination arcs)) arcs)) (d .0), omega (arith, d .1, a .1))
+    let way = route N asker source departure destination arcs in
+    let t = taken-for asker (r .taken) in
+    let d = demand-2-of-route (networkFor N asker) (t .accepted) source departure (t .source-below) (t .departure-below) destination (r .destination-below) (r .reached) in
+    (rw (e, a .1, take-append-seam way (drop (length way) arcs)) (d .0), omega (arith, d .1, a .1))
 
 pub room-for-every-route : RoomForEveryRoute
-room-for-every-route N source departure destination arcs taken destination-below reached room =
-    let d = demand-2-of-route N (taken .accepted) source departure (taken .source-below) (taken .departure-below) destination destination-below reached in
-    replies N source departure destination arcs (taken-kept N source departure taken) destination-below reached (omega (arith, d .1, taken .accepted .junctions-fit))
+room-for-every-route N asker source departure destination arcs known taken destination-below reached room =
+    let t = taken-for asker taken in
+    let d = demand-2-of-route (networkFor N asker) (t .accepted) source departure (t .source-below) (t .departure-below) destination destination-below reached in
+    replies N asker source departure destination arcs (taken-kept N asker source departure known taken) destination-below reached
+    (omega (arith, d .1, taken .accepted .junctions-fit))
 
 -- The source is reached, at the departure, by the walk of no arcs, and its route is empty.
 pub route-to-source : RouteToSource
-route-to-source N source departure arcs taken =
-    let empty = route-source (netOf N) source departure in
-    let by-start = demand-2 N (taken .accepted) source departure (taken .source-below) (taken .departure-below) .no-sooner source departure start in
-    let answer = replies N source departure source arcs (taken-kept N source departure taken) (taken .source-below)
-    (λ e. omega (arith, taken .departure-below)) (rw empty (omega arith)) ∙ ap (λ way. replied (length way)) empty in
+route-to-source N asker source departure arcs known taken =
+    let M = networkFor N asker in
+    let t = taken-for asker taken in
+    let empty = route-source (netOf M) source departure in
+    let by-start = demand-2 M (t .accepted) source departure (t .source-below) (t .departure-below) .no-sooner source departure start in
+    let answer = replies N asker source departure source arcs (taken-kept N asker source departure known taken) (t .source-below)
+    (λ e. omega (arith, t .departure-below)) (rw empty (omega arith)) ∙ ap (λ way. replied (length way)) empty in
     (answer, rw (answer, empty))

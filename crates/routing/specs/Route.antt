@@ -1,7 +1,8 @@
 -- "Route (network, source, departure, destination, lent arc list). 1 to 10; 12, destination not below the junction count; 13,
 -- destination unreached; 14, the list is shorter than the route. Otherwise the number of arcs, and at the list's start the arc
 -- numbers in driving order, found by following predecessors; later entries are unchanged. From the source to itself: 0 arcs." By
--- document 02, order 5, 32 stands after 8, and by order 7, 36 and 37 after it.
+-- document 02, order 5, 32 stands after 8, and by orders 7 and 8, 36 to 39 after it. The network has the whole list of closures; the route is
+-- that of the network as the asker finds it.
 use Prim.Native.Nat.{ℕ, _≤_, _<_}
 use mathlib.Core.Path.{_≡_}
 use mathlib.Core.Bool.{not}
@@ -11,7 +12,8 @@ use mathlib.Core.Option.{Option, none, some}
 use lib.Dec.{ltb, eqb}
 use lib.ListN.{length, take}
 use Rattle.model.specs.Ticks.{never}
-use Rattle.model.specs.Network.{Network, netOf}
+use Rattle.model.specs.Network.{Network, networkFor, netOf}
+use Rattle.model.specs.Parties.{KnownAsker}
 use Rattle.model.specs.Demands.{label}
 use Rattle.model.specs.Routes.{routeOf, Driven}
 use Rattle.refusals.specs.Refusals.{numberOf}
@@ -30,7 +32,7 @@ abbrev pub arrivalOf : Routed → Option ℕ
 arrivalOf (Arcs count arrival) = some arrival
 arrivalOf (Refused refusal) = none
 
--- The rule on the destination, after those of the question; and those on what is then found.
+-- The rule on the destination, after those of the question; and those on what is then found, in the network as the asker finds it.
 abbrev pub destinationRules : Network → ℕ → List Rule
 destinationRules N destination = (12 if not (ltb destination (N .junctions))) ∷ []
 
@@ -40,52 +42,57 @@ foundRules N source departure destination arcs =
     ∷ (14 if ltb (length arcs) (length (routeOf (netOf N) source departure destination)))
     ∷ []
 
-unfoldable pub routeAnswer : Network → ℕ → ℕ → ℕ → List ℕ → Outcome ℕ
-routeAnswer N source departure destination arcs =
-    firstBroken (questionRules N source departure ++ (destinationRules N destination ++ foundRules N source departure destination arcs))
-    (length (routeOf (netOf N) source departure destination))
+unfoldable pub routeAnswer : Network → ℕ → ℕ → ℕ → ℕ → List ℕ → Outcome ℕ
+routeAnswer N asker source departure destination arcs =
+    firstBroken (questionRules N asker source departure ++ (destinationRules N destination ++ foundRules (networkFor N asker) source departure destination arcs))
+    (length (routeOf (netOf (networkFor N asker)) source departure destination))
 
 -- Where the call replies, the destination's label.
 abbrev pub withReply : Outcome ℕ → ℕ → Option ℕ
 withReply (refused number) arrival = none
 withReply (replied count) arrival = some arrival
 
-abbrev pub routeArrival : Network → ℕ → ℕ → ℕ → List ℕ → Option ℕ
-routeArrival N source departure destination arcs = withReply (routeAnswer N source departure destination arcs) (label N source departure destination)
+abbrev pub routeArrival : Network → ℕ → ℕ → ℕ → ℕ → List ℕ → Option ℕ
+routeArrival N asker source departure destination arcs =
+    withReply (routeAnswer N asker source departure destination arcs) (label (networkFor N asker) source departure destination)
 
-abbrev pub arcsAfter : Network → ℕ → ℕ → ℕ → List ℕ → List ℕ
-arcsAfter N source departure destination arcs =
-    after (routeAnswer N source departure destination arcs) (written (routeOf (netOf N) source departure destination) arcs) arcs
+abbrev pub arcsAfter : Network → ℕ → ℕ → ℕ → ℕ → List ℕ → List ℕ
+arcsAfter N asker source departure destination arcs =
+    after (routeAnswer N asker source departure destination arcs) (written (routeOf (netOf (networkFor N asker)) source departure destination) arcs) arcs
 
 -- ---- What is proved of it
 
--- What Route asks: a question that is taken, a destination that is reached, and a list long enough.
-pub record Routable (N : Network) (source departure destination : ℕ) (arcs : List ℕ) : Type 0 where
+-- What Route asks: an asker that is known, a question that is taken, a destination that is reached, and a list long enough.
+pub record Routable (N : Network) (asker source departure destination : ℕ) (arcs : List ℕ) : Type 0 where
+  pub known-asker : KnownAsker asker
   pub taken : Taken N source departure
   pub destination-below : destination < N .junctions
-  pub reached : label N source departure destination ≡ never → ⊥
-  pub long-enough : length arcs < length (routeOf (netOf N) source departure destination) → ⊥
+  pub reached : label (networkFor N asker) source departure destination ≡ never → ⊥
+  pub long-enough : length arcs < length (routeOf (netOf (networkFor N asker)) source departure destination) → ⊥
 
 -- Route replies exactly then, and replies the number of arcs.
 abbrev pub RouteRepliesWhenRoutable : Type 0
-RouteRepliesWhenRoutable = (N : Network) (source departure destination : ℕ) (arcs : List ℕ) (count : ℕ) →
-    (routeAnswer N source departure destination arcs ≡ replied count)
-    ↔ (Routable N source departure destination arcs × (count ≡ length (routeOf (netOf N) source departure destination)))
+RouteRepliesWhenRoutable = (N : Network) (asker source departure destination : ℕ) (arcs : List ℕ) (count : ℕ) →
+    (routeAnswer N asker source departure destination arcs ≡ replied count)
+    ↔ (Routable N asker source departure destination arcs × (count ≡ length (routeOf (netOf (networkFor N asker)) source departure destination)))
 
 -- Demand 2 of the list that a call which replies leaves: its first entries, as many as the reply says, are driven from the
 -- source to the destination and arrive there at its label; and they are fewer than the junctions.
 abbrev pub Demand2OfRouteCall : Type 0
-Demand2OfRouteCall = (N : Network) (source departure destination : ℕ) (arcs : List ℕ) (count : ℕ) → routeAnswer N source departure destination arcs ≡ replied count →
-    Driven (netOf N) source departure (take count (arcsAfter N source departure destination arcs)) destination (label N source departure destination)
+Demand2OfRouteCall = (N : Network) (asker source departure destination : ℕ) (arcs : List ℕ) (count : ℕ) →
+    routeAnswer N asker source departure destination arcs ≡ replied count →
+    Driven (netOf (networkFor N asker)) source departure (take count (arcsAfter N asker source departure destination arcs))
+    destination (label (networkFor N asker) source departure destination)
     × (count < N .junctions)
 
 -- A list of 199 is never too short: with it Route replies for every destination that is reached.
 abbrev pub RoomForEveryRoute : Type 0
-RoomForEveryRoute = (N : Network) (source departure destination : ℕ) (arcs : List ℕ) → Taken N source departure → destination < N .junctions →
-    (label N source departure destination ≡ never → ⊥) → 199 ≤ length arcs →
-    routeAnswer N source departure destination arcs ≡ replied (length (routeOf (netOf N) source departure destination))
+RoomForEveryRoute = (N : Network) (asker source departure destination : ℕ) (arcs : List ℕ) →
+    KnownAsker asker → Taken N source departure → destination < N .junctions →
+    (label (networkFor N asker) source departure destination ≡ never → ⊥) → 199 ≤ length arcs →
+    routeAnswer N asker source departure destination arcs ≡ replied (length (routeOf (netOf (networkFor N asker)) source departure destination))
 
 -- "From the source to itself: 0 arcs." The reply is 0 and the list is as it was, however short it is.
 abbrev pub RouteToSource : Type 0
-RouteToSource = (N : Network) (source departure : ℕ) (arcs : List ℕ) → Taken N source departure →
-    (routeAnswer N source departure source arcs ≡ replied 0) × (arcsAfter N source departure source arcs ≡ arcs)
+RouteToSource = (N : Network) (asker source departure : ℕ) (arcs : List ℕ) → KnownAsker asker → Taken N source departure →
+    (routeAnswer N asker source departure source arcs ≡ replied 0) × (arcsAfter N asker source departure source arcs ≡ arcs)

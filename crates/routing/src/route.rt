@@ -120,17 +120,18 @@ pub fn route(
     lengths: &[u32],
     holds: &[u16],
     speeds: &[u8],
-    closures: &[[u32; 3]],
+    closures: &[[u32; 4]],
+    asker: u32,
     source: u32,
     departure: Tick,
     destination: u32,
     arcs: &mut [u16],
 ) -> Routed
-    ensures answer { λ r. ⌜ outcomeOf r ≡ routeAnswer (lentNetwork junctions fences tails heads lengths holds speeds (lentClosures closures)) source (departure .number)
+    ensures answer { λ r. ⌜ outcomeOf r ≡ routeAnswer (lentNetwork junctions fences tails heads lengths holds speeds (lentClosures closures)) asker source (departure .number)
         destination (now (arcs .entry)) ⌝ }
-    ensures arrival { λ r. ⌜ arrivalOf r ≡ routeArrival (lentNetwork junctions fences tails heads lengths holds speeds (lentClosures closures)) source (departure .number)
+    ensures arrival { λ r. ⌜ arrivalOf r ≡ routeArrival (lentNetwork junctions fences tails heads lengths holds speeds (lentClosures closures)) asker source (departure .number)
         destination (now (arcs .entry)) ⌝ }
-    ensures arcs { λ _. ⌜ now (arcs .exit) ≡ arcsAfter (lentNetwork junctions fences tails heads lengths holds speeds (lentClosures closures)) source (departure .number)
+    ensures arcs { λ _. ⌜ now (arcs .exit) ≡ arcsAfter (lentNetwork junctions fences tails heads lengths holds speeds (lentClosures closures)) asker source (departure .number)
         destination (now (arcs .entry)) ⌝ }
 {
     let mut earliest = [UNREACHED; MAX_JUNCTIONS];
@@ -144,6 +145,7 @@ pub fn route(
         holds,
         speeds,
         closures,
+        asker,
         source,
         departure,
         &mut earliest,

@@ -12,6 +12,7 @@ use lib.Seq.{getD-take, length-take-le, take-all}
 use borrow.Author.Tests.{eq-eqb}
 use Rattle.model.specs.Demands.{label}
 use Rattle.model.specs.Network.{Network, Accepted}
+use Rattle.model.specs.Parties.{brigade}
 use Rattle.model.specs.NetworkRules.{networkCheck}
 use Rattle.model.specs.Rules.{refused, replied, firstBroken}
 use Rattle.model.specs.Ticks.{never}
@@ -69,21 +70,21 @@ module _ (N : Network) (source : ℕ) (departures : List ℕ) (checked : network
 
   module _ (none : N .closures ≡ []) (labels figures : List ℕ) (labels-long : length labels ≡ length departures * N .junctions)
       (figures-long : length figures ≡ 4 * N .junctions) where
-    shift-only : sheetAnswer N source departures labels figures ≡ firstBroken (shiftRules N source departures) tt
+    shift-only : sheetAnswer N brigade source departures labels figures ≡ firstBroken (shiftRules N source departures) tt
     unfolding sheetAnswer firstBroken
     shift-only =
         let buffers = sheetBufferRules N departures labels figures in
         let shift = shiftRules N source departures in
-        let network-kept = kept-before (closedNetworkRules N) (shift ++ buffers) tt (open-kept N none keeps) in
+        let network-kept = kept-before (closedNetworkRules N brigade) (shift ++ buffers) tt (open-kept N none keeps) in
         let labels-kept = eq-eqb (length labels) (length departures * N .junctions) labels-long in
         let figures-kept = eq-eqb (length figures) (4 * N .junctions) figures-long in
-        ap (λ rules. firstBroken rules tt) (append-assoc (closedNetworkRules N) shift buffers) ∙ network-kept ∙ rw (labels-kept, figures-kept)
+        ap (λ rules. firstBroken rules tt) (append-assoc (closedNetworkRules N brigade) shift buffers) ∙ network-kept ∙ rw (labels-kept, figures-kept)
 
-    pub sheet-refused : {number : ℕ} → refused number ≡ sheetAnswer N source departures labels figures → networkSheet N source departures ≡ refusedAt number 0
+    pub sheet-refused : {number : ℕ} → refused number ≡ sheetAnswer N brigade source departures labels figures → networkSheet N source departures ≡ refusedAt number 0
     unfolding networkSheet
     sheet-refused {number} e = ap atLineZero (refused-before (shiftRules N source departures) [] tt (sheetIn N source departures) number (sym (e ∙ shift-only)))
 
-    module _ (e : replied tt ≡ sheetAnswer N source departures labels figures) where
+    module _ (e : replied tt ≡ sheetAnswer N brigade source departures labels figures) where
       pub sheet-written : networkSheet N source departures ≡ accepted (sheetIn N source departures)
       unfolding networkSheet
       sheet-written =
@@ -91,12 +92,12 @@ module _ (N : Network) (source : ℕ) (departures : List ℕ) (checked : network
           ap atLineZero (kept-replies rules (sheetIn N source departures) (replies-kept rules tt tt (sym (e ∙ shift-only))))
 
       taken : ShiftTaken N source departures
-      taken = sheet-replies-when-sheetable N source departures labels figures .0 (sym e) .taken
+      taken = sheet-replies-when-sheetable N brigade source departures labels figures .0 (sym e) .1 .taken
 
       -- The table that then starts with the figures.
-      module _ (table : List ℕ) (long : 4 * N .junctions ≤ length table) (starts : take (4 * N .junctions) table ≡ sheetFiguresAfter N source departures labels figures) where
+      module _ (table : List ℕ) (long : 4 * N .junctions ≤ length table) (starts : take (4 * N .junctions) table ≡ sheetFiguresAfter N brigade source departures labels figures) where
         starts-with : take (4 * N .junctions) table ≡ figuresOf N source departures
-        starts-with = starts ∙ rw (← e)
+        starts-with = starts ∙ rw (← e, none)
 
         pub sheet-fits : LinesFit (N .junctions) table
         sheet-fits = record { few = few-junctions; long = long; counts-short = short }

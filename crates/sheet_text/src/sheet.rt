@@ -5,6 +5,7 @@ ghost use Prim.Native.Nat.{_*_, _≤_, min};
 ghost use lib.ListN.{length, take};
 ghost use Rattle.model.specs.Lent.{lentNetwork, networkIn};
 ghost use Rattle.model.specs.NetworkRules.{networkCheck};
+ghost use Rattle.model.specs.Parties.{brigade};
 ghost use Rattle.model.specs.Rules.{replied, written};
 ghost use Rattle.townfile.specs.Load.{counts, LongEnough, networkAt};
 ghost use Rattle.townfile.specs.Lent.{lentTables, tablesIn};
@@ -22,6 +23,7 @@ use loading::load::load;
 use model::limit::MAX_ARCS;
 use model::limit::MAX_INTERVALS;
 use model::limit::MAX_JUNCTIONS;
+use model::party::BRIGADE;
 use question_line::line::Asked;
 use question_line::line::QUESTION;
 use question_line::line::numbers_line;
@@ -51,16 +53,16 @@ fn sheet_parts(
 ) -> Sheeted
     requires { ⌜ PartsFit junctions (now departures) (now labels) (now figures) ⌝ }
     ensures answer { λ r. ⌜ outcomeOf r ≡
-        sheetAnswer (lentNetwork junctions fences tails heads lengths holds speeds []) source (now (departures .entry))
+        sheetAnswer (lentNetwork junctions fences tails heads lengths holds speeds []) brigade source (now (departures .entry))
         (take (length (now (departures .entry)) * junctions) (now (labels .entry))) (take (4 * junctions) (now (figures .entry))) ⌝ }
     ensures figures { λ _. ⌜ take (4 * junctions) (now (figures .exit)) ≡
-        sheetFiguresAfter (lentNetwork junctions fences tails heads lengths holds speeds []) source (now (departures .entry))
+        sheetFiguresAfter (lentNetwork junctions fences tails heads lengths holds speeds []) brigade source (now (departures .entry))
         (take (length (now (departures .entry)) * junctions) (now (labels .entry))) (take (4 * junctions) (now (figures .entry))) ⌝ }
 {
     let count = junctions as usize;
     let labels_end = departures.len() * count;
     let figures_end = FIGURES * count;
-    let no_closures = [[0u32; 3]; 0];
+    let no_closures = [[0u32; 4]; 0];
     sheet(
         junctions,
         fences,
@@ -70,6 +72,7 @@ fn sheet_parts(
         holds,
         speeds,
         &no_closures,
+        BRIGADE,
         source,
         departures,
         &mut labels[..labels_end],

@@ -8,7 +8,7 @@ use native.Mathlib.Omega.{arith}
 use lib.ListN.{length, getD, List·getD-append}
 use lib.Seq.{getD-append-add}
 use Rattle.model.specs.Ticks.{day, never}
-use Rattle.model.specs.Network.{Network, Accepted}
+use Rattle.model.specs.Network.{Network, networkFor, Accepted}
 use Rattle.model.specs.Demands.{label}
 use Rattle.model.proofs.Demands.{demand-2}
 use Rattle.model.proofs.Networks.{accepted-sound}
@@ -18,7 +18,7 @@ use Rattle.dijkstra.specs.Labelable.{Labelable}
 use Rattle.labelling.proofs.LabelRules.{labels-replies-when-labelable}
 use Rattle.sheeting.specs.Sheet.{SheetOfCallMeans}
 use Rattle.sheeting.proofs.RowByRow.{row-is}
-use Rattle.sheeting.proofs.SheetRules.{answered, departure-taken}
+use Rattle.sheeting.proofs.SheetRules.{answered, departure-taken, shift-taken-for}
 use Rattle.sheeting.specs.Figures.{reaching, journey, journeys, least, greatest, sum, fourOf, figuresFrom, figuresOf}
 use Rattle.sheeting.specs.Figures.{Journey, Journeys, no-departure, reaches, unreached, Among, FiguresMean, figureIn, FiguresOfNetworkMean}
 
@@ -143,17 +143,19 @@ figures-of-network-mean N accepted source below departures in-day j inside =
 -- ---- Of a call
 
 pub sheet-of-call-means : SheetOfCallMeans
-sheet-of-call-means N source departures labels figures e =
-    let t = answered N source departures labels figures e .taken in
+sheet-of-call-means N asker source departures labels figures e =
+    let (known, sheetable) = answered N asker source departures labels figures e in
+    let M = networkFor N asker in
+    let t = shift-taken-for asker (sheetable .taken) in
     rw e record {
       rows = λ k h buffer predecessors long long′.
           let q : Labelable N source (getD departures k 0) buffer predecessors = record {
-            taken = departure-taken t h;
+            taken = departure-taken (sheetable .taken) h;
             labels-long = long;
             predecessors-long = long′;
           } in
-          let replies = labels-replies-when-labelable N source (getD departures k 0) buffer predecessors .1 q in
-          (replies, rw replies (row-is N source departures k h));
-      rows-earliest = λ k h. rw (row-is N source departures k h) (demand-2 N (t .accepted) source (getD departures k 0) (t .source-below) (t .departures-below k h));
-      junction-figures = λ j inside. figures-of-network-mean N (t .accepted) source (t .source-below) departures (t .departures-below) j inside;
+          let replies = labels-replies-when-labelable N asker source (getD departures k 0) buffer predecessors .1 (known, q) in
+          (replies, rw replies (row-is M source departures k h));
+      rows-earliest = λ k h. rw (row-is M source departures k h) (demand-2 M (t .accepted) source (getD departures k 0) (t .source-below) (t .departures-below k h));
+      junction-figures = λ j inside. figures-of-network-mean M (t .accepted) source (t .source-below) departures (t .departures-below) j inside;
     }

@@ -1,6 +1,6 @@
 -- "The station plans with a list of departures, 1 to 96 of them, from one source." "30, the list is empty or above 96, after 9; 31,
 -- either buffer has the wrong length, in place of 11, after 10, which now covers every departure." By order 5, 32 stands after 8, and by
--- order 7, 36 and 37 after it.
+-- orders 7 and 8, 36 to 39 after it. The network has the whole list of closures; the rows are those of the network as the asker finds it.
 use Prim.Native.Nat.{ℕ, _*_, _≤_, _<_}
 use mathlib.Core.Path.{_≡_}
 use mathlib.Core.Bool.{Bool, not, _&&_}
@@ -10,7 +10,8 @@ use lib.Dec.{eqb, leb, ltb}
 use lib.ListN.{length, getD}
 use Rattle.model.specs.Ticks.{day, never}
 use Rattle.model.specs.Closures.{ClosuresKept}
-use Rattle.model.specs.Network.{Network, Accepted, arcs, netOf}
+use Rattle.model.specs.Network.{Network, networkFor, Accepted, arcs, netOf}
+use Rattle.model.specs.Parties.{KnownAsker}
 use Rattle.model.specs.Walks.{Earliest}
 use Rattle.model.specs.Rules.{Outcome, refused, replied, Rule, _if_, firstBroken, after, every}
 use Rattle.refusals.specs.Refusals.{numberOf}
@@ -42,7 +43,7 @@ inDay departure = ltb departure day
 abbrev pub departuresRules : List ℕ → List Rule
 departuresRules departures = (10 if not (every inDay departures)) ∷ []
 
--- The rules on where and when the walks start, after those of the network with its closures.
+-- The rules on where and when the walks start, after those of the network with its closures and of the asker.
 abbrev pub shiftRules : Network → ℕ → List ℕ → List Rule
 shiftRules N source departures = sourceRules N source ++ (listRules departures ++ departuresRules departures)
 
@@ -50,20 +51,22 @@ abbrev pub sheetBufferRules : Network → List ℕ → List ℕ → List ℕ →
 sheetBufferRules N departures labels figures =
     (31 if not (eqb (length labels) (length departures * N .junctions) && eqb (length figures) (4 * N .junctions))) ∷ []
 
-unfoldable pub shiftCheck : Network → ℕ → List ℕ → Outcome (Unit {0})
-shiftCheck N source departures = firstBroken (closedNetworkRules N ++ shiftRules N source departures) tt
+unfoldable pub shiftCheck : Network → ℕ → ℕ → List ℕ → Outcome (Unit {0})
+shiftCheck N asker source departures = firstBroken (closedNetworkRules N asker ++ shiftRules N source departures) tt
 
-unfoldable pub sheetAnswer : Network → ℕ → List ℕ → List ℕ → List ℕ → Outcome (Unit {0})
-sheetAnswer N source departures labels figures =
-    firstBroken ((closedNetworkRules N ++ shiftRules N source departures) ++ sheetBufferRules N departures labels figures) tt
+unfoldable pub sheetAnswer : Network → ℕ → ℕ → List ℕ → List ℕ → List ℕ → Outcome (Unit {0})
+sheetAnswer N asker source departures labels figures =
+    firstBroken ((closedNetworkRules N asker ++ shiftRules N source departures) ++ sheetBufferRules N departures labels figures) tt
 
 -- ---- The buffers
 
-abbrev pub sheetLabelsAfter : Network → ℕ → List ℕ → List ℕ → List ℕ → List ℕ
-sheetLabelsAfter N source departures labels figures = after (sheetAnswer N source departures labels figures) (rowsOf N source departures) labels
+abbrev pub sheetLabelsAfter : Network → ℕ → ℕ → List ℕ → List ℕ → List ℕ → List ℕ
+sheetLabelsAfter N asker source departures labels figures =
+    after (sheetAnswer N asker source departures labels figures) (rowsOf (networkFor N asker) source departures) labels
 
-abbrev pub sheetFiguresAfter : Network → ℕ → List ℕ → List ℕ → List ℕ → List ℕ
-sheetFiguresAfter N source departures labels figures = after (sheetAnswer N source departures labels figures) (figuresOf N source departures) figures
+abbrev pub sheetFiguresAfter : Network → ℕ → ℕ → List ℕ → List ℕ → List ℕ → List ℕ
+sheetFiguresAfter N asker source departures labels figures =
+    after (sheetAnswer N asker source departures labels figures) (figuresOf (networkFor N asker) source departures) figures
 
 -- ---- What is proved of it
 
@@ -82,22 +85,22 @@ pub record Sheetable (N : Network) (source : ℕ) (departures labels figures : L
   pub labels-long : length labels ≡ length departures * N .junctions
   pub figures-long : length figures ≡ 4 * N .junctions
 
--- It replies exactly then.
+-- It replies exactly then, to an asker that is known.
 abbrev pub SheetRepliesWhenSheetable : Type 0
-SheetRepliesWhenSheetable = (N : Network) (source : ℕ) (departures labels figures : List ℕ) →
-    (sheetAnswer N source departures labels figures ≡ replied tt) ↔ Sheetable N source departures labels figures
+SheetRepliesWhenSheetable = (N : Network) (asker source : ℕ) (departures labels figures : List ℕ) →
+    (sheetAnswer N asker source departures labels figures ≡ replied tt) ↔ (KnownAsker asker × Sheetable N source departures labels figures)
 
 -- "A row holds exactly the labels that Labels gives for that departure": those that a call of Labels leaves, which are the earliest
 -- arrivals over all walks. And the figures of each junction mean what they are called.
-pub record SheetMeans (N : Network) (source : ℕ) (departures labels figures : List ℕ) : Type 0 where
+pub record SheetMeans (N : Network) (asker source : ℕ) (departures labels figures : List ℕ) : Type 0 where
   pub rows : (k : ℕ) → k < length departures → (buffer predecessors : List ℕ) → length buffer ≡ N .junctions → length predecessors ≡ N .junctions →
-      (labelsAnswer N source (getD departures k 0) buffer predecessors ≡ replied tt)
-      × (row N k labels ≡ labelsAfter N source (getD departures k 0) buffer predecessors)
-  pub rows-earliest : (k : ℕ) → k < length departures → Earliest (netOf N) source (getD departures k 0) (λ j. getD (row N k labels) j never)
+      (labelsAnswer N asker source (getD departures k 0) buffer predecessors ≡ replied tt)
+      × (row N k labels ≡ labelsAfter N asker source (getD departures k 0) buffer predecessors)
+  pub rows-earliest : (k : ℕ) → k < length departures → Earliest (netOf (networkFor N asker)) source (getD departures k 0) (λ j. getD (row N k labels) j never)
   pub junction-figures : (j : ℕ) → j < N .junctions →
-      FiguresMean N source j departures (figureIn figures j 0) (figureIn figures j 1) (figureIn figures j 2) (figureIn figures j 3)
+      FiguresMean (networkFor N asker) source j departures (figureIn figures j 0) (figureIn figures j 1) (figureIn figures j 2) (figureIn figures j 3)
 
 -- Of the buffers that a call which replies leaves.
 abbrev pub SheetOfCallMeans : Type 0
-SheetOfCallMeans = (N : Network) (source : ℕ) (departures labels figures : List ℕ) → sheetAnswer N source departures labels figures ≡ replied tt →
-    SheetMeans N source departures (sheetLabelsAfter N source departures labels figures) (sheetFiguresAfter N source departures labels figures)
+SheetOfCallMeans = (N : Network) (asker source : ℕ) (departures labels figures : List ℕ) → sheetAnswer N asker source departures labels figures ≡ replied tt →
+    SheetMeans N asker source departures (sheetLabelsAfter N asker source departures labels figures) (sheetFiguresAfter N asker source departures labels figures)

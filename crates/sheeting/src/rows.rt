@@ -16,7 +16,7 @@ pub(crate) fn write_rows(
     lengths: &[u32],
     holds: &[u16],
     speeds: &[u8],
-    closures: &[[u32; 3]],
+    closures: &[[u32; 4]],
     source: usize,
     departures: &[u32],
     labels: &mut [u32],

@@ -8,6 +8,8 @@ use crate::figures::write_figures;
 use crate::rows::write_rows;
 use checking::closure::closed_network_check;
 use checking::network::NetworkCheck;
+use closures::stopping::put_stopping;
+use model::closure::MAX_CLOSURES;
 use model::tick::Tick;
 use refusals::refusal::Refusal;
 
@@ -35,7 +37,7 @@ fn departures_keep(departures: &[u32]) -> bool
     true
 }
 
-// The rules on the network with its closures, the source and the list.
+// The rules on the network with its closures, the asker, the source and the list.
 fn shift_check(
     junctions: u32,
     fences: &[u32],
@@ -44,11 +46,12 @@ fn shift_check(
     lengths: &[u32],
     holds: &[u16],
     speeds: &[u8],
-    closures: &[[u32; 3]],
+    closures: &[[u32; 4]],
+    asker: u32,
     source: u32,
     departures: &[u32],
 ) -> NetworkCheck
-    ensures { λ r. ⌜ networkOutcomeOf r ≡ shiftCheck (lentNetwork junctions fences tails heads lengths holds speeds (lentClosures closures)) source (now (departures .entry)) ⌝ }
+    ensures { λ r. ⌜ networkOutcomeOf r ≡ shiftCheck (lentNetwork junctions fences tails heads lengths holds speeds (lentClosures closures)) asker source (now (departures .entry)) ⌝ }
 {
     if let NetworkCheck::Refused(refusal) = closed_network_check(
         junctions,
@@ -59,6 +62,7 @@ fn shift_check(
         holds,
         speeds,
         closures,
+        asker,
     ) {
         return NetworkCheck::Refused(refusal);
     }
@@ -85,7 +89,8 @@ pub fn sheet(
     lengths: &[u32],
     holds: &[u16],
     speeds: &[u8],
-    closures: &[[u32; 3]],
+    closures: &[[u32; 4]],
+    asker: u32,
     source: u32,
     departures: &[u32],
     labels: &mut [u32],
@@ -93,13 +98,13 @@ pub fn sheet(
 ) -> Sheeted
     ensures answer { λ r. ⌜ outcomeOf r ≡
         sheetAnswer (lentNetwork junctions fences tails heads lengths holds speeds (lentClosures closures))
-        source (now (departures .entry)) (now (labels .entry)) (now (figures .entry)) ⌝ }
+        asker source (now (departures .entry)) (now (labels .entry)) (now (figures .entry)) ⌝ }
     ensures labels { λ _. ⌜ now (labels .exit) ≡
         sheetLabelsAfter (lentNetwork junctions fences tails heads lengths holds speeds (lentClosures closures))
-        source (now (departures .entry)) (now (labels .entry)) (now (figures .entry)) ⌝ }
+        asker source (now (departures .entry)) (now (labels .entry)) (now (figures .entry)) ⌝ }
     ensures figures { λ _. ⌜ now (figures .exit) ≡
         sheetFiguresAfter (lentNetwork junctions fences tails heads lengths holds speeds (lentClosures closures))
-        source (now (departures .entry)) (now (labels .entry)) (now (figures .entry)) ⌝ }
+        asker source (now (departures .entry)) (now (labels .entry)) (now (figures .entry)) ⌝ }
 {
     if let NetworkCheck::Refused(refusal) = shift_check(
         junctions,
@@ -110,6 +115,7 @@ pub fn sheet(
         holds,
         speeds,
         closures,
+        asker,
         source,
         departures,
     ) {
@@ -122,6 +128,8 @@ pub fn sheet(
     if figures.len() != FIGURES * count {
         return Sheeted::Refused(Refusal::SheetLength);
     }
+    let mut stopping = [[0u32; 4]; MAX_CLOSURES];
+    let stopping_count = put_stopping(asker, closures, &mut stopping);
     write_rows(
         count,
         fences,
@@ -130,7 +138,7 @@ pub fn sheet(
         lengths,
         holds,
         speeds,
-        closures,
+        &stopping[..stopping_count],
         source as usize,
         departures,
         labels,

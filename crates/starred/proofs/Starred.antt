@@ -63,14 +63,14 @@ standing-row = ap (λ (t : ℕ). replied (tickAndInterval? (0 ∷ 100 ∷ []) t)
 
 labels-are : (N : Network) → N .closures ≡ [] → (source departure : ℕ) (expected : List ℕ) → networkCheck N ≡ replied tt → source < N .junctions → departure < day →
     labelsOf (netOf N) source departure ≡ expected → LabelsAre N source departure expected
-labels-are N none source departure expected checked source-below departure-below computed labels predecessors labels-long predecessors-long =
+labels-are N none source departure expected checked source-below departure-below computed asker known labels predecessors labels-long predecessors-long =
     let q : Labelable N source departure labels predecessors = record {
       taken = record { accepted = accepts-when-kept N .0 checked; closures-kept = no-closures-keep none; source-below = source-below; departure-below = departure-below };
       labels-long = labels-long;
       predecessors-long = predecessors-long;
     } in
-    let answer = labels-replies-when-labelable N source departure labels predecessors .1 q in
-    (answer, rw answer computed)
+    let answer = labels-replies-when-labelable N asker source departure labels predecessors .1 (known, q) in
+    (answer, rw (answer, none) (rw none at computed))
 
 -- A text whose scan computes describes the town that its lines give.
 describes : (text : List ℕ) (p : Progress) → every (λ byte. ltb byte 256) text ≡ true → firstFault text ≡ accepted p → DescribesTown text (townOf text)

@@ -7,6 +7,7 @@ use mathlib.Core.List.{List, [], _∷_, _++_}
 use mathlib.Core.Option.{Option, none, some}
 use lib.ListN.{length}
 use Rattle.model.specs.Network.{Network}
+use Rattle.model.specs.Parties.{KnownAsker}
 use Rattle.model.specs.Rules.{replied}
 use Rattle.arc_arrival.specs.ArcArrival.{arcArrival}
 use Rattle.labelling.specs.Labels.{labelsAnswer, labelsAfter}
@@ -22,10 +23,10 @@ pub data Row : Type 0 where
   alike : (text text′ : List ℕ) → Row
   refuses : (text : List ℕ) (number line : ℕ) → Row
 
--- The labels of a network, for all lent buffers of the right length.
+-- The labels of a network, for either asker and all lent buffers of the right length.
 abbrev pub LabelsAre : Network → ℕ → ℕ → List ℕ → Type 0
-LabelsAre N source departure expected = (labels predecessors : List ℕ) → length labels ≡ N .junctions → length predecessors ≡ N .junctions →
-    (labelsAnswer N source departure labels predecessors ≡ replied tt) × (labelsAfter N source departure labels predecessors ≡ expected)
+LabelsAre N source departure expected = (asker : ℕ) → KnownAsker asker → (labels predecessors : List ℕ) → length labels ≡ N .junctions → length predecessors ≡ N .junctions →
+    (labelsAnswer N asker source departure labels predecessors ≡ replied tt) × (labelsAfter N asker source departure labels predecessors ≡ expected)
 
 -- What a row claims, from the definitions of the operations. The labels of a text are those of the town that it describes. Texts load
 -- alike, or are refused, whatever tables are lent.

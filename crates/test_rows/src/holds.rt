@@ -4,6 +4,7 @@ use crate::arcs::print_held;
 use crate::print_labels;
 use crate::print_labels_of_3;
 use libc::STDOUT_FILENO;
+use model::party::BRIGADE;
 
 fn print_hold(hold: u32) {
     io::write_all(STDOUT_FILENO, b"hold ");
@@ -69,7 +70,7 @@ fn print_one_way(holds: &[u16]) {
     io::write_all(STDOUT_FILENO, b"one way, holds of ");
     io::print_decimal(STDOUT_FILENO, holds.len() as u64);
     io::write_all(STDOUT_FILENO, b" arcs:");
-    let no_closures = [[0u32; 3]; 0];
+    let no_closures = [[0u32; 4]; 0];
     print_labels(
         2,
         &fences,
@@ -79,6 +80,7 @@ fn print_one_way(holds: &[u16]) {
         holds,
         &speeds,
         &no_closures,
+        BRIGADE,
         0,
         &mut earliest,
         &mut predecessors,

@@ -1,20 +1,22 @@
-// The reckonings of document 01 that are run and not proved, and others around midnight, with wrong intervals, with holds and with closures, each on
+// The reckonings of document 01 that are run and not proved, and others around midnight, with wrong intervals, with holds, with closures and for both parties, each on
 // a line with what the operation answers. By document 02, order 5, "the rows to keep (..) have hold 0".
 ghost use mathlib.Core.Path.{_≡_};
 ghost use lib.ListN.{length};
 use labelling::labels::Labelled;
 use labelling::labels::labels;
 use libc::STDOUT_FILENO;
+use model::party::BRIGADE;
 use model::tick::Tick;
 use refusals::refusal::Refusal;
 use routing::route::Routed;
 use routing::route::route;
 
 mod arcs;
-mod closures;
 mod holds;
 mod intervals;
 mod midnight;
+mod parties;
+mod roadworks;
 mod table_1;
 
 fn print_refusal(refusal: Refusal) {
@@ -64,7 +66,8 @@ fn print_labels(
     lengths: &[u32],
     holds: &[u16],
     speeds: &[u8],
-    closures: &[[u32; 3]],
+    closures: &[[u32; 4]],
+    asker: u32,
     departure: u32,
     earliest: &mut [u32],
     predecessors: &mut [u16],
@@ -78,6 +81,7 @@ fn print_labels(
         holds,
         speeds,
         closures,
+        asker,
         0,
         Tick { number: departure },
         earliest,
@@ -100,7 +104,7 @@ fn print_labels_of_3(
 ) {
     let mut earliest = [0u32; 3];
     let mut predecessors = [0u16; 3];
-    let no_closures = [[0u32; 3]; 0];
+    let no_closures = [[0u32; 4]; 0];
     print_labels(
         3,
         fences,
@@ -110,6 +114,7 @@ fn print_labels_of_3(
         holds,
         speeds,
         &no_closures,
+        BRIGADE,
         departure,
         &mut earliest,
         &mut predecessors,
@@ -132,7 +137,7 @@ fn print_sample(source: u32, destination: u32, arcs: &mut [u16]) {
     io::write_all(STDOUT_FILENO, b", room ");
     io::print_decimal(STDOUT_FILENO, arcs.len() as u64);
     io::write_all(STDOUT_FILENO, b":");
-    let no_closures = [[0u32; 3]; 0];
+    let no_closures = [[0u32; 4]; 0];
     print_route(route(
         3,
         &fences,
@@ -142,6 +147,7 @@ fn print_sample(source: u32, destination: u32, arcs: &mut [u16]) {
         &holds,
         &speeds,
         &no_closures,
+        BRIGADE,
         source,
         Tick { number: 10 },
         destination,
@@ -198,7 +204,7 @@ fn print_row_of_junctions(arcs: &mut [u16]) {
     io::write_all(STDOUT_FILENO, b"200 junctions in a row, room ");
     io::print_decimal(STDOUT_FILENO, arcs.len() as u64);
     io::write_all(STDOUT_FILENO, b":");
-    let no_closures = [[0u32; 3]; 0];
+    let no_closures = [[0u32; 4]; 0];
     print_route(route(
         200,
         &fences,
@@ -208,6 +214,7 @@ fn print_row_of_junctions(arcs: &mut [u16]) {
         &holds,
         &speeds,
         &no_closures,
+        BRIGADE,
         0,
         Tick { number: 0 },
         199,
@@ -253,5 +260,6 @@ fn main() {
     midnight::print_rows();
     intervals::print_rows();
     holds::print_rows();
-    closures::print_rows();
+    roadworks::print_rows();
+    parties::print_rows();
 }

@@ -3,6 +3,7 @@ use crate::print_entry;
 use crate::print_labels;
 use crate::print_route;
 use libc::STDOUT_FILENO;
+use model::party::BRIGADE;
 use model::tick::Tick;
 use routing::route::route;
 
@@ -17,7 +18,7 @@ fn print_route_of_5(
     departure: u32,
 ) {
     let mut arcs = [9u16; 3];
-    let no_closures = [[0u32; 3]; 0];
+    let no_closures = [[0u32; 4]; 0];
     print_route(route(
         5,
         fences,
@@ -27,6 +28,7 @@ fn print_route_of_5(
         holds,
         speeds,
         &no_closures,
+        BRIGADE,
         0,
         Tick { number: departure },
         4,
@@ -125,7 +127,7 @@ pub(crate) fn print_table_1(departure: u32) {
     io::write_all(STDOUT_FILENO, b"Table 1 from ");
     io::print_decimal(STDOUT_FILENO, departure as u64);
     io::write_all(STDOUT_FILENO, b":");
-    let no_closures = [[0u32; 3]; 0];
+    let no_closures = [[0u32; 4]; 0];
     print_labels(
         5,
         &fences,
@@ -135,6 +137,7 @@ pub(crate) fn print_table_1(departure: u32) {
         &holds,
         &speeds,
         &no_closures,
+        BRIGADE,
         departure,
         &mut earliest,
         &mut predecessors,

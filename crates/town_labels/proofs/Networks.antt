@@ -10,6 +10,7 @@ use borrow.Author.Tests.{eq-eqb}
 use Rattle.model.specs.Labels.{labelsOf, predecessorsOf, predecessorOf}
 use Rattle.model.specs.Limits.{maxJunctions}
 use Rattle.model.specs.Network.{Network, Accepted, netOf}
+use Rattle.model.specs.Parties.{brigade}
 use Rattle.model.specs.NetworkRules.{networkCheck}
 use Rattle.model.specs.Rules.{Outcome, refused, replied, firstBroken, written}
 use Rattle.model.proofs.NetworkRules.{accepts-when-kept}
@@ -70,13 +71,13 @@ module _ (N : Network) (source departure : ℕ) where
       predecessors-room = omega (arith, few-junctions)
 
       abbrev answer : Outcome (Unit {0})
-      answer = answerWithin N source departure labels predecessors
+      answer = answerWithin N brigade source departure labels predecessors
 
       start-only : answer ≡ firstBroken (startRules N source departure) tt
       unfolding labelsAnswer firstBroken
       start-only =
           let buffers = bufferRules N (front N labels) (front N predecessors) in
-          let network-kept = kept-before (closedNetworkRules N) (startRules N source departure ++ buffers) tt (open-kept N none keeps) in
+          let network-kept = kept-before (closedNetworkRules N brigade) (startRules N source departure ++ buffers) tt (open-kept N none keeps) in
           let labels-kept = eq-eqb (length (front N labels)) (N .junctions) (length-take-le (N .junctions) labels labels-room) in
           let predecessors-kept = eq-eqb (length (front N predecessors)) (N .junctions) (length-take-le (N .junctions) predecessors predecessors-room) in
           network-kept ∙ rw (labels-kept, predecessors-kept)
@@ -84,8 +85,8 @@ module _ (N : Network) (source departure : ℕ) where
       -- The answer, and what both buffers hold afterwards.
       abbrev Ends : Reading Labelling → List ℕ → List ℕ → Type 0
       Ends reading labels′ predecessors′ = (networkLabelling N source departure ≡ reading)
-          × (labelsWithin N source departure labels predecessors ≡ labels′)
-          × (predecessorsWithin N source departure labels predecessors ≡ predecessors′)
+          × (labelsWithin N brigade source departure labels predecessors ≡ labels′)
+          × (predecessorsWithin N brigade source departure labels predecessors ≡ predecessors′)
 
       pub ends-refused : {number : ℕ} → refused number ≡ answer → Ends (refusedAt number 0) labels predecessors
       unfolding networkLabelling
@@ -100,6 +101,6 @@ module _ (N : Network) (source departure : ℕ) where
       ends-written e =
           let rules = startRules N source departure in (
             ap atLineZero (kept-replies rules labelling (replies-kept rules tt tt (sym (e ∙ start-only)))),
-            rw (← e),
-            rw (← e),
+            rw (← e, none),
+            rw (← e, none),
           )

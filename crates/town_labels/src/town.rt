@@ -1,5 +1,6 @@
 // Load, and Labels in what it loaded.
 ghost use mathlib.Core.Path.{_≡_};
+ghost use Rattle.model.specs.Parties.{brigade};
 ghost use Rattle.townfile.specs.Load.{counts, LongEnough, networkAt};
 ghost use Rattle.townfile.specs.Lent.{lentTables, tablesIn};
 ghost use Rattle.labelling.specs.Labels.{outcomeOf};
@@ -12,6 +13,7 @@ use loading::load::load;
 use model::limit::MAX_ARCS;
 use model::limit::MAX_INTERVALS;
 use model::limit::MAX_JUNCTIONS;
+use model::party::BRIGADE;
 use model::tick::Tick;
 use refusals::refusal::Refusal;
 
@@ -39,17 +41,17 @@ fn labels_in_tables(
 ) -> Labelled
     requires { ⌜ LongEnough (counts junctions intervals arcs) (tablesIn fences tails heads lengths holds speeds) ⌝ }
     ensures answer { λ r. ⌜ outcomeOf r ≡
-        answerWithin (networkAt (counts junctions intervals arcs) (lentTables fences tails heads lengths holds speeds)) source departure
+        answerWithin (networkAt (counts junctions intervals arcs) (lentTables fences tails heads lengths holds speeds)) brigade source departure
         (now (labels .entry)) (now (predecessors .entry)) ⌝ }
     ensures labels { λ _. ⌜ now (labels .exit) ≡
-        labelsWithin (networkAt (counts junctions intervals arcs) (lentTables fences tails heads lengths holds speeds)) source departure
+        labelsWithin (networkAt (counts junctions intervals arcs) (lentTables fences tails heads lengths holds speeds)) brigade source departure
         (now (labels .entry)) (now (predecessors .entry)) ⌝ }
     ensures predecessors { λ _. ⌜ now (predecessors .exit) ≡
-        predecessorsWithin (networkAt (counts junctions intervals arcs) (lentTables fences tails heads lengths holds speeds)) source departure
+        predecessorsWithin (networkAt (counts junctions intervals arcs) (lentTables fences tails heads lengths holds speeds)) brigade source departure
         (now (labels .entry)) (now (predecessors .entry)) ⌝ }
 {
     let speed_count = arcs * intervals;
-    let no_closures = [[0u32; 3]; 0];
+    let no_closures = [[0u32; 4]; 0];
     labels_within(
         junctions,
         &fences[..intervals],
@@ -59,6 +61,7 @@ fn labels_in_tables(
         &holds[..arcs],
         &speeds[..speed_count],
         &no_closures,
+        BRIGADE,
         source,
         Tick { number: departure },
         labels,

@@ -2,10 +2,10 @@
 
 use std::hint::black_box;
 
-use compare::inputs::towns::{DEPARTURE, EVENING, SOURCE, Town, departures};
+use compare::inputs::towns::{ASKER, DEPARTURE, EVENING, SOURCE, Town, departures};
 use compare::operations::{CABINET, Converter, Operations, REFERENCE};
-use compare::reference::Form;
 use compare::reference::limits::{FIGURES, MAX_ARCS, MAX_INTERVALS, MAX_TEXT, REFUSED};
+use compare::reference::{Closure, Form};
 
 #[derive(Clone, Copy, PartialEq)]
 pub enum Operation {
@@ -18,13 +18,14 @@ pub enum Operation {
     LabelsHeld,
     LabelsClosures1,
     LabelsClosures64,
+    LabelsClosuresShared,
     Route,
     Sheet,
     HostQuestion,
 }
 
 impl Operation {
-    pub const ALL: [Self; 12] = [
+    pub const ALL: [Self; 13] = [
         Self::Load,
         Self::LoadHeld,
         Self::ToNew,
@@ -34,6 +35,7 @@ impl Operation {
         Self::LabelsHeld,
         Self::LabelsClosures1,
         Self::LabelsClosures64,
+        Self::LabelsClosuresShared,
         Self::Route,
         Self::Sheet,
         Self::HostQuestion,
@@ -50,6 +52,7 @@ impl Operation {
             Self::LabelsHeld => "labels-held",
             Self::LabelsClosures1 => "labels-closures-1",
             Self::LabelsClosures64 => "labels-closures-64",
+            Self::LabelsClosuresShared => "labels-closures-shared",
             Self::Route => "route",
             Self::Sheet => "sheet",
             Self::HostQuestion => "host-question",
@@ -63,6 +66,7 @@ impl Operation {
             Self::Load | Self::LoadHeld | Self::ToNew | Self::ToOld => town != "full",
             Self::Route | Self::HostQuestion => town != "full",
             Self::LabelsClosures1 | Self::LabelsClosures64 => town == Town::CLOSED,
+            Self::LabelsClosuresShared => town == Town::CLOSED,
         }
     }
 
@@ -138,16 +142,16 @@ impl Row {
     /// A call that can be repeated and lends the same buffers each time.
     pub fn call(&self, implementation: Implementation) -> Box<dyn FnMut() + '_> {
         let operations = implementation.operations();
+        let labels = |closures, departure| labels(operations, &self.town, closures, departure);
         match self.operation {
             Operation::Load | Operation::LoadHeld => load(operations, &self.town),
             Operation::ToNew => convert(operations.to_new, &self.town),
             Operation::ToOld => convert(operations.to_old, &self.town),
-            Operation::Labels | Operation::LabelsHeld => {
-                labels(operations, &self.town, 0, DEPARTURE)
-            }
-            Operation::LabelsEvening => labels(operations, &self.town, 0, EVENING),
-            Operation::LabelsClosures1 => labels(operations, &self.town, 1, DEPARTURE),
-            Operation::LabelsClosures64 => labels(operations, &self.town, 64, DEPARTURE),
+            Operation::Labels | Operation::LabelsHeld => labels(Vec::new(), DEPARTURE),
+            Operation::LabelsEvening => labels(Vec::new(), EVENING),
+            Operation::LabelsClosures1 => labels(self.town.closures(1), DEPARTURE),
+            Operation::LabelsClosures64 => labels(self.town.closures(64), DEPARTURE),
+            Operation::LabelsClosuresShared => labels(self.town.shared_closures(64), DEPARTURE),
             Operation::Route => route(operations, &self.town),
             Operation::Sheet => sheet(operations, &self.town),
             Operation::HostQuestion => host_question(operations, &self.town),
@@ -187,17 +191,17 @@ fn convert<'a>(converter: Converter, town: &'a Town) -> Box<dyn FnMut() + 'a> {
 fn labels<'a>(
     operations: &'a Operations,
     town: &'a Town,
-    closures: usize,
+    closures: Vec<Closure>,
     departure: u32,
 ) -> Box<dyn FnMut() + 'a> {
     let network = town.network.lent();
-    let closures = town.closures(closures);
     let mut labels = vec![0; network.junctions as usize];
     let mut predecessors = vec![0; network.junctions as usize];
     Box::new(move || {
         let reply = (operations.labels)(
             black_box(&network),
             black_box(&closures),
+            ASKER,
             SOURCE,
             departure,
             black_box(&mut labels),
@@ -215,6 +219,7 @@ fn route<'a>(operations: &'a Operations, town: &'a Town) -> Box<dyn FnMut() + 'a
         let reply = (operations.route)(
             black_box(&network),
             black_box(&[]),
+            ASKER,
             SOURCE,
             DEPARTURE,
             destination,
@@ -233,6 +238,7 @@ fn sheet<'a>(operations: &'a Operations, town: &'a Town) -> Box<dyn FnMut() + 'a
         let reply = (operations.sheet)(
             black_box(&network),
             black_box(&[]),
+            ASKER,
             SOURCE,
             black_box(&departures),
             black_box(&mut labels),

@@ -1,15 +1,19 @@
 //! Properties of closures: of those of the first day as intervals of a plan, of more ticks
 //! closed and the same ones by other records, of arcs closed from before the departure or
-//! throughout, and of damaged lists.
+//! throughout, and of damaged lists and unknown askers.
 
-use super::{cabinet_labels, cabinet_route, driven, refused_by_the_source};
+use super::{cabinet_labels, cabinet_route, driven, refused_by_the_source, stopping};
 use crate::comparison::answers::shown_closed;
 use crate::comparison::{Check, Difference, Outcome};
-use crate::inputs::closures::{random_closures, random_more_ticks, random_same_ticks};
-use crate::inputs::damage::damage_closures;
+use crate::inputs::closures::{
+    random_asker, random_closures, random_more_ticks, random_same_ticks,
+};
+use crate::inputs::damage::{damage_closures, unknown_asker};
 use crate::inputs::networks::{random_departure, random_network, random_towards};
 use crate::inputs::{OwnedNetwork, Random};
-use crate::reference::limits::{DAY, LAST_TICK, MAX_CLOSURES, MAX_INTERVALS, NO_ARC, UNREACHED};
+use crate::reference::limits::{
+    BOTH_PARTIES, DAY, LAST_TICK, MAX_CLOSURES, MAX_INTERVALS, NO_ARC, UNREACHED,
+};
 use crate::reference::{Closure, Refusal};
 
 pub const CLOSURES_AS_INTERVALS: Check = Check {
@@ -57,15 +61,16 @@ pub const CLOSURE_LIST: Check = Check {
     cases: 5_000,
     run: closure_list,
     finds_nothing: false,
-    refuses: &[36..=37],
+    refuses: &[36..=39],
 };
 
 /// Labels and predecessors.
 type Labels = (Vec<u32>, Vec<u16>);
 
-/// A network and a start in it.
+/// A network, an asker and a start in it.
 struct Town {
     network: OwnedNetwork,
+    asker: u32,
     source: u32,
     departure: u32,
 }
@@ -74,6 +79,7 @@ impl Town {
     fn random(random: &mut Random) -> Self {
         let network = random_network(random);
         Self {
+            asker: random_asker(random),
             source: random.below(network.junctions),
             departure: random_departure(random, &network.fences),
             network,
@@ -86,7 +92,12 @@ impl Town {
 
     /// The library's labels with these closures.
     fn labels(&self, closures: &[Closure]) -> Labels {
-        cabinet_labels(&self.network, closures, self.source, self.departure)
+        self.labels_of(&self.network, closures)
+    }
+
+    /// Those of another network.
+    fn labels_of(&self, network: &OwnedNetwork, closures: &[Closure]) -> Labels {
+        cabinet_labels(network, closures, self.asker, self.source, self.departure)
     }
 
     /// What is found with the closures, or nothing if the labels are those without any.
@@ -101,10 +112,13 @@ impl Town {
         [expected, found]: [String; 2],
     ) -> Difference {
         let Self {
-            source, departure, ..
+            asker,
+            source,
+            departure,
+            ..
         } = self;
         Difference {
-            question: format!("labels from {source} at {departure}, {question}"),
+            question: format!("labels for {asker} from {source} at {departure}, {question}"),
             input: shown_closed(&self.network, closures),
             expected,
             found,
@@ -138,10 +152,11 @@ fn closures_as_intervals(random: &mut Random) -> Result<Outcome, Difference> {
     let mut closures = town.random_closures(random);
     closures.retain(|closure| closure.end <= DAY);
     closures.truncate((MAX_INTERVALS - town.network.fences.len()) / 2);
-    let first = closures.iter().map(|closure| closure.first).min();
+    let stopping = stopping(&closures, town.asker);
+    let first = stopping.iter().map(|closure| closure.first).min();
     let same_until = DAY + first.unwrap_or(DAY);
-    let plan = town.network.closed_daily(&closures);
-    let by_plan = cabinet_labels(&plan, &[], town.source, town.departure);
+    let plan = town.network.closed_daily(&stopping);
+    let by_plan = town.labels_of(&plan, &[]);
     let found = labels_until(same_until, town.labels(&closures));
     let expected = labels_until(same_until, by_plan);
     let question = format!("and by intervals up to {same_until}");
@@ -191,7 +206,7 @@ fn same_ticks_closed(random: &mut Random) -> Result<Outcome, Difference> {
     let destination = random.below(town.network.junctions);
     let routes = [&closures, &same].map(|closures| {
         let start = (town.source, town.departure);
-        cabinet_route(&town.network, closures, start.0, start.1, destination)
+        cabinet_route(&town.network, closures, town.asker, start, destination)
     });
     if routes[0] != routes[1] {
         let both = routes.map(|route| format!("{route:?}"));
@@ -210,7 +225,13 @@ fn closed_at_start(random: &mut Random) -> Result<Outcome, Difference> {
     let source = town.source as u16;
     let out_of_source = |&arc: &u32| town.network.tails[arc as usize] == source;
     let arcs = (0..town.network.arcs() as u32).filter(out_of_source);
-    let closures: Vec<Closure> = arcs.map(|arc| Closure { arc, first, end }).collect();
+    let closure = |arc| Closure {
+        arc,
+        first,
+        end,
+        party: random.pick(&[BOTH_PARTIES, town.asker]),
+    };
+    let closures: Vec<Closure> = arcs.map(closure).collect();
     if end == DAY || closures.len() > MAX_CLOSURES {
         return Ok(Outcome::Nothing);
     }
@@ -238,21 +259,26 @@ fn closed_throughout(random: &mut Random) -> Result<Outcome, Difference> {
                 arc: arc as u32,
                 first: 0,
                 end: LAST_TICK,
+                party: random.pick(&[BOTH_PARTIES, town.asker]),
             });
         }
     }
     let found = town.labels(&closures);
-    let expected = cabinet_labels(&standing, &[], town.source, town.departure);
+    let expected = town.labels_of(&standing, &[]);
     town.expect("closed throughout", &closures, &expected, &found)?;
     Ok(town.outcome(&found))
 }
 
-/// Where nothing but the list may be damaged, its number is that of Labels, Route and Sheet,
-/// although all that comes after it is wrong; that of a good list is the source's.
+/// Where nothing but the list and the asker may be damaged, the list's number is that of
+/// Labels, Route and Sheet, although all that comes after it is wrong; that of a good list is
+/// the asker's, and with a good asker the source's.
 fn closure_list(random: &mut Random) -> Result<Outcome, Difference> {
-    let town = Town::random(random);
+    let mut town = Town::random(random);
     let mut closures = town.random_closures(random);
-    if !random.one_in(4) {
+    if random.one_in(3) {
+        town.asker = unknown_asker(random);
+    }
+    if !random.one_in(3) {
         damage_closures(random, town.network.arcs(), &mut closures);
     }
     let arcs = town.network.arcs() as u32;
@@ -260,10 +286,12 @@ fn closure_list(random: &mut Random) -> Result<Outcome, Difference> {
     let (refusal, outcome) = match closures.len() {
         65.. => refused(36),
         _ if closures.iter().any(bad) => refused(37),
+        _ if closures.iter().any(|one| one.party > 2) => refused(38),
+        _ if town.asker != 1 && town.asker != 2 => refused(39),
         _ => (Refusal(9), Outcome::Answered),
     };
     let expected = [Err(refusal); 3];
-    let found = refused_by_the_source(&town.network, &closures);
+    let found = refused_by_the_source(&town.network, &closures, town.asker);
     if found != expected {
         let both = [expected, found].map(|replies| format!("{replies:?}"));
         return Err(town.difference("route and sheet, all refused", &closures, both));

@@ -10,7 +10,7 @@ use crate::cabinet;
 use crate::comparison::answers::{shown, shown_closed};
 use crate::comparison::{Check, Difference, Outcome};
 use crate::inputs::Random;
-use crate::inputs::closures::random_closures;
+use crate::inputs::closures::{random_asker, random_closures};
 use crate::inputs::damage::damage_holds;
 use crate::inputs::networks::{random_arc, random_arc_departure, random_departure, random_network};
 use crate::reference::limits::{MAX_ARCS, MAX_JUNCTIONS};
@@ -68,6 +68,7 @@ fn holds_as_arcs(random: &mut Random) -> Result<Outcome, Difference> {
     let source = random.below(network.junctions);
     let departure = random_departure(random, &network.fences);
     let closures = random_closures(random, &network, source, departure);
+    let asker = random_asker(random);
     let mut with_stop_lines = network.clone();
     let mut before_stop_lines = closures.clone();
     let chances = random.pick(&[1, 3]);
@@ -82,15 +83,23 @@ fn holds_as_arcs(random: &mut Random) -> Result<Outcome, Difference> {
             }
         }
     }
-    let expected = cabinet_labels(&network, &closures, source, departure);
-    let (mut labels, mut predecessors) =
-        cabinet_labels(&with_stop_lines, &before_stop_lines, source, departure);
+    let expected = cabinet_labels(&network, &closures, asker, source, departure);
+    let found = cabinet_labels(
+        &with_stop_lines,
+        &before_stop_lines,
+        asker,
+        source,
+        departure,
+    );
+    let (mut labels, mut predecessors) = found;
     labels.truncate(network.junctions as usize);
     predecessors.truncate(network.junctions as usize);
     let found = (labels, predecessors);
     if found != expected {
         return Err(Difference {
-            question: format!("labels from {source} at {departure}, and with holds as arcs"),
+            question: format!(
+                "labels for {asker} from {source} at {departure}, and with holds as arcs"
+            ),
             input: [
                 shown_closed(&network, &closures),
                 shown_closed(&with_stop_lines, &before_stop_lines),
@@ -128,8 +137,9 @@ fn hold_table(random: &mut Random) -> Result<Outcome, Difference> {
         arc: u32::MAX,
         first: 1,
         end: 0,
+        party: 3,
     };
-    let found = (check, refused_by_the_source(&network, &[wrong; 65]));
+    let found = (check, refused_by_the_source(&network, &[wrong; 65], 0));
     let expected = (expected, [after_network; 3]);
     if found != expected {
         return Err(Difference {

@@ -9,7 +9,7 @@ use crate::inputs::networks::{
     LoneArc, random_arc, random_arc_departure, random_departure, random_network, random_path,
 };
 use crate::inputs::{OwnedNetwork, Random};
-use crate::reference::limits::{DAY, NO_ARC, UNREACHED};
+use crate::reference::limits::{BRIGADE, DAY, NO_ARC, UNREACHED};
 use crate::reference::{Arrival, Refusal};
 
 pub const ONE_INTERVAL: Check = Check {
@@ -191,7 +191,7 @@ fn expect_labels(
     departure: u32,
     expected: (Vec<u32>, Vec<u16>),
 ) -> Result<Outcome, Difference> {
-    let found = cabinet_labels(network, &[], source, departure);
+    let found = cabinet_labels(network, &[], BRIGADE, source, departure);
     if found != expected {
         return Err(Difference {
             question: format!("labels from {source} at {departure}"),

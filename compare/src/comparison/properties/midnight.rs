@@ -5,7 +5,7 @@ use super::{cabinet_labels, cabinet_reply, driven};
 use crate::comparison::answers::{shown_arc, shown_closed};
 use crate::comparison::{Check, Difference, Outcome};
 use crate::inputs::Random;
-use crate::inputs::closures::random_closures;
+use crate::inputs::closures::{random_asker, random_closures};
 use crate::inputs::networks::{interval_at, random_arc, random_departure, random_network};
 use crate::reference::limits::{DAY, LAST_TICK, MAX_INTERVALS, NO_ARC, UNREACHED};
 use crate::reference::{Arrival, Closure};
@@ -86,12 +86,13 @@ fn labels_rotated(random: &mut Random) -> Result<Outcome, Difference> {
     let [(early, town), (late, same_town)] = towns;
     let closures = random_closures(random, town, source, early);
     let later_closures = closed_later(&closures, late - early);
-    let (labels, predecessors) = cabinet_labels(town, &closures, source, early);
+    let asker = random_asker(random);
+    let (labels, predecessors) = cabinet_labels(town, &closures, asker, source, early);
     let expected = made_later(&labels, &predecessors, late - early);
-    let found = cabinet_labels(same_town, &later_closures, source, late);
+    let found = cabinet_labels(same_town, &later_closures, asker, source, late);
     if found != expected {
         return Err(Difference {
-            question: format!("labels from {source} at {early}, and rotated at {late}"),
+            question: format!("labels for {asker} from {source} at {early}, and rotated at {late}"),
             input: [
                 shown_closed(town, &closures),
                 shown_closed(same_town, &later_closures),
@@ -134,9 +135,9 @@ fn made_later(labels: &[u32], predecessors: &[u16], ticks: u32) -> (Vec<u32>, Ve
 /// Closures so many ticks later, without what is then after the last tick.
 fn closed_later(closures: &[Closure], ticks: u32) -> Vec<Closure> {
     let later = closures.iter().map(|closure| Closure {
-        arc: closure.arc,
         first: closure.first + ticks,
         end: LAST_TICK.min(closure.end + ticks),
+        ..*closure
     });
     later
         .filter(|closure| closure.first < closure.end)

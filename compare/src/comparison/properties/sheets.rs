@@ -5,7 +5,7 @@ use super::cabinet_labels;
 use crate::cabinet;
 use crate::comparison::answers::shown_closed;
 use crate::comparison::{Check, Difference, Outcome};
-use crate::inputs::closures::random_closures;
+use crate::inputs::closures::{random_asker, random_closures};
 use crate::inputs::networks::{random_departures, random_network};
 use crate::inputs::{OwnedNetwork, Random};
 use crate::reference::Closure;
@@ -42,12 +42,13 @@ fn sheet_by_labels(random: &mut Random) -> Result<Outcome, Difference> {
     let Question {
         network,
         closures,
+        asker,
         source,
         departures,
     } = &question;
     let rows: Vec<Vec<u32>> = departures
         .iter()
-        .map(|&departure| cabinet_labels(network, closures, *source, departure).0)
+        .map(|&departure| cabinet_labels(network, closures, *asker, *source, departure).0)
         .collect();
     let figures = (0..network.junctions as usize).map(|junction| {
         let labels = rows.iter().map(|row| row[junction]);
@@ -103,6 +104,7 @@ fn sheet_twice(random: &mut Random) -> Result<Outcome, Difference> {
 struct Question {
     network: OwnedNetwork,
     closures: Vec<Closure>,
+    asker: u32,
     source: u32,
     departures: Vec<u32>,
 }
@@ -122,6 +124,7 @@ impl Question {
         let departures = random_departures(random, &network.fences, count);
         Self {
             closures: random_closures(random, &network, source, departures[0]),
+            asker: random_asker(random),
             network,
             source,
             departures,
@@ -136,6 +139,7 @@ impl Question {
         let reply = cabinet::sheet(
             &self.network.lent(),
             &self.closures,
+            self.asker,
             self.source,
             &self.departures,
             &mut labels,
@@ -152,7 +156,10 @@ impl Question {
         let found = self.sheet();
         if found != *expected {
             return Err(Difference {
-                question: format!("sheet from {} at {:?}", self.source, self.departures),
+                question: format!(
+                    "sheet for {} from {} at {:?}",
+                    self.asker, self.source, self.departures
+                ),
                 input: shown_closed(&self.network, &self.closures),
                 expected: format!("{expected:?}"),
                 found: format!("{found:?}"),

@@ -1,6 +1,7 @@
 use std::fmt::Write;
 
 use super::{Question, printed};
+use crate::reference::closures::ClosedArcs;
 use crate::reference::labels::{Search, check_start};
 use crate::reference::limits::{NO_ARC, UNREACHED};
 use crate::reference::load::Town;
@@ -22,7 +23,8 @@ fn answer(input: &[u8]) -> Result<String, LoadRefusal> {
     start.map_err(|refusal| refusal.at_line(0))?;
     let mut labels = vec![UNREACHED; network.junctions as usize];
     let mut predecessors = vec![NO_ARC; network.junctions as usize];
-    Search::new(&network, &[]).run(source, departure, &mut labels, &mut predecessors);
+    let search = Search::new(&network, ClosedArcs::none());
+    search.run(source, departure, &mut labels, &mut predecessors);
     Ok(table(&labels, &predecessors))
 }
 

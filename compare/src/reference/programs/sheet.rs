@@ -1,6 +1,7 @@
 use std::fmt::Write;
 
 use super::{Question, printed};
+use crate::reference::closures::ClosedArcs;
 use crate::reference::limits::{FIGURES, UNREACHED};
 use crate::reference::load::Town;
 use crate::reference::sheet::{check_departures, fill};
@@ -23,7 +24,9 @@ fn answer(input: &[u8]) -> Result<String, LoadRefusal> {
     let junctions = network.junctions as usize;
     let mut labels = vec![UNREACHED; departures.len() * junctions];
     let mut figures = vec![0; FIGURES * junctions];
-    fill(&network, &[], source, departures, &mut labels, &mut figures);
+    let buffers = (&mut labels[..], &mut figures[..]);
+    let closed = ClosedArcs::none();
+    fill(&network, closed, source, departures, buffers.0, buffers.1);
     Ok(lines(&figures))
 }
 

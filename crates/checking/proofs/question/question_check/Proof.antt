@@ -22,28 +22,31 @@ begun c = search
 abbrev N : tie.After-enum-told → Network
 N c = let args = begun c .args in networkIn (args .junctions) (args .fences) (args .tails) (args .heads) (args .lengths) (args .holds) (args .speeds) (closuresIn (args .closures))
 
-by-rules : (n : Network) (source departure : ℕ) → questionCheck n source departure ≡ firstBroken (questionRules n source departure) tt
+abbrev asker : tie.After-enum-told → ℕ
+asker c = begun c .args .asker
+
+by-rules : (n : Network) (asker source departure : ℕ) → questionCheck n asker source departure ≡ firstBroken (questionRules n asker source departure) tt
 unfolding questionCheck
-by-rules n source departure = refl
+by-rules n asker source departure = refl
 
 -- the network's rules are kept, and then those of this check, one by one
-abbrev network-kept : (c : tie.After-enum-told) → KeptSoFar (length (closedNetworkRules (N c)))
+abbrev network-kept : (c : tie.After-enum-told) → KeptSoFar (length (closedNetworkRules (N c) (asker c)))
 network-kept c =
     let source = begun c .args .source in
     let departure = begun c .args .tick in
-    others-kept tt (closedNetworkRules (N c)) (startRules (N c) source departure) (by-rules (N c) source departure)
-    (network-keeps (N c) (c .before .before .closed-network-check .ensures) (c .enum-told .given .1))
+    others-kept tt (closedNetworkRules (N c) (asker c)) (startRules (N c) source departure) (by-rules (N c) (asker c) source departure)
+    (network-keeps (N c) (asker c) (c .before .before .closed-network-check .ensures) (c .enum-told .given .1))
 
-abbrev source-kept : (c : tie.Else1) → KeptSoFar (suc (length (closedNetworkRules (N (c .before)))))
+abbrev source-kept : (c : tie.Else1) → KeptSoFar (suc (length (closedNetworkRules (N (c .before)) (asker (c .before)))))
 source-kept c = next-kept (network-kept (c .before)) (ap not (lt-ltb _ _ (c .if1 .left)))
 
-abbrev departure-kept : (c : tie.Else2) → KeptSoFar (suc (suc (length (closedNetworkRules (N (c .before .before))))))
+abbrev departure-kept : (c : tie.Else2) → KeptSoFar (suc (suc (length (closedNetworkRules (N (c .before .before)) (asker (c .before .before))))))
 departure-kept c = next-kept (source-kept (c .before)) (ap not (lt-ltb _ _ (c .if2 .left)))
 
 returns : tie.Need-returns
 returns c =
     let asked : tie.After-closed-network-check = search in
-    network-refuses _ _ _ _ (sym (ap outcomeOf (c .before .refusal .given .1)) ∙ asked .closed-network-check .ensures)
+    network-refuses _ _ _ _ _ (sym (ap outcomeOf (c .before .refusal .given .1)) ∙ asked .closed-network-check .ensures)
 
 -- where a test fails, its rule is the first broken
 source-refused : tie.Need-returns-2

@@ -2,9 +2,11 @@
 -- kept the labelling has written the two tables.
 use borrow.Author.Needs.{needs}
 use Prim.Native.Nat.{ℕ}
-use mathlib.Core.Path.{_≡_, sym, ap, _∙_}
+use mathlib.Core.Path.{_≡_, refl, sym, ap, _∙_}
 use mathlib.Core.Bool.{true, false, not, _&&_}
+use native.Mathlib.Omega.{arith}
 use lib.Dec.{eqb}
+use lib.Seq.{length-take-le}
 use denote.Ref.{now}
 use borrow.Author.Tests.{eq-eqb, ne-eqb}
 use Rattle.model.specs.Network.{Network}
@@ -13,8 +15,9 @@ use Rattle.model.specs.Rules.{AllKept}
 use Rattle.model.proofs.Rules.{replies-kept}
 use Rattle.checking.specs.NetworkCheck.{outcomeOf}
 use Rattle.checking.specs.Question.{questionRules, questionCheck}
+use Rattle.checking.proofs.QuestionRules.{kept-taken}
 use Rattle.labelling.specs.Labels.{bufferRules}
-use Rattle.labelling.proofs.LabelRules.{question-refuses, buffers-refuse, replies, kept-labelable, ends-written}
+use Rattle.labelling.proofs.LabelRules.{question-refuses, buffers-refuse, replies, ends-labelled}
 use Rattle.labelling.proofs.labels.labels.Statement.{statement}
 use Rattle.labelling.proofs.labels.labels.Tie as tie
 
@@ -25,7 +28,7 @@ abbrev begun : tie.After-enum-told → tie.Start
 begun c = search
 
 -- the question is taken
-taken : (c : tie.After-enum-told) → AllKept (questionRules (N (begun c)) (begun c .args .source) (begun c .args .departure .number))
+taken : (c : tie.After-enum-told) → AllKept (questionRules (N (begun c)) (begun c .args .asker) (begun c .args .source) (begun c .args .departure .number))
 unfolding questionCheck
 taken c = replies-kept _ tt tt (sym (c .before .before .question-check .ensures) ∙ ap outcomeOf (c .enum-told .given .1))
 
@@ -45,23 +48,33 @@ kept c = (both-long _ _ _ (c .before .if1 .left) (c .if2 .left), tt)
 returns : tie.Need-returns
 returns c =
     let asked : tie.After-question-check = search in
-    question-refuses _ _ _ _ _ _ (sym (ap outcomeOf (c .before .refusal .given .1)) ∙ asked .question-check .ensures)
+    question-refuses _ _ _ _ _ _ _ (sym (ap outcomeOf (c .before .refusal .given .1)) ∙ asked .question-check .ensures)
 
 returns-2 : tie.Need-returns-2
-returns-2 c = buffers-refuse _ _ _ _ _ (taken (c .before)) (short-labels _ _ _ (c .if1 .taken))
+returns-2 c = buffers-refuse _ _ _ _ _ _ (taken (c .before)) (short-labels _ _ _ (c .if1 .taken))
 
 returns-3 : tie.Need-returns-3
-returns-3 c = buffers-refuse _ _ _ _ _ (taken (c .before .before)) (short-predecessors _ _ _ (c .before .if1 .left) (c .if2 .taken))
+returns-3 c = buffers-refuse _ _ _ _ _ _ (taken (c .before .before)) (short-predecessors _ _ _ (c .before .if1 .left) (c .if2 .taken))
+
+-- as many rows as are lent are in the table
+inside : tie.Need-array-share-prefix-stopping
+inside c = omega (arith, c .put-stopping .ensures .0, c .put-stopping .ensures .1 .0)
+
+lent : tie.Need-slice-aggregate-label-from
+lent c = let put : tie.After-put-stopping = search in sym (length-take-le _ _ (inside put))
 
 returns-4 : tie.Need-returns-4
 returns-4 c =
     let told : tie.After-enum-told = search in
     let fits : tie.Else2 = search in
+    let put : tie.After-put-stopping = search in
     let labelled : tie.After-label-from = search in
+    let args = begun told .args in
     let question = taken told in
-    let labelable = kept-labelable _ _ _ _ _ question (kept fits) in
+    let few = kept-taken (N (begun told)) (args .asker) (args .source) (args .departure .number) question .1 .closures-kept .at-most in
+    let stopping = put .put-stopping .ensures .1 .1 refl few in
     let (labels-are, predecessors-are) = labelled .label-from .ensures in
-    ends-written _ _ _ _ _ (replies _ _ _ _ _ question (kept fits)) (labels-are .when-labelable labelable) (predecessors-are .when-labelable labelable)
+    ends-labelled _ _ _ _ _ _ _ stopping (replies _ _ _ _ _ _ question (kept fits)) labels-are predecessors-are
 
 pub labels-spec : {M : Type 1} → statement M
 labels-spec =
@@ -73,6 +86,9 @@ labels-spec =
     (λ c. search needs)
     returns-2
     returns-3
+    (λ c κs. search needs)
+    inside
+    lent
     (λ c κs. search needs)
     (λ c. search needs)
     (λ c. search needs)

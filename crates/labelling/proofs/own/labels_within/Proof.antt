@@ -26,8 +26,8 @@ returns c =
     let predecessors-count = lesser-predecessors .lesser2 .ensures in
     let labels-front = front-is (now (s .args .labels)) n _ labels-count in
     let predecessors-front = front-is (now (s .args .predecessors)) n _ predecessors-count in
-    let left = called .labels .last .1 .1 .1 .1 .1 .1 .1 .1 .1 .1 in
-    let as-long = called .labels .kept .1 .1 .1 .1 .1 .1 .1 .1 .1 .1 in
+    let left = called .labels .last .1 .1 .1 .1 .1 .1 .1 .1 .1 .1 .1 in
+    let as-long = called .labels .kept .1 .1 .1 .1 .1 .1 .1 .1 .1 .1 .1 in
     let (answers, (labels-are, predecessors-are)) = called .labels .ensures in (
       rw (labels-front, predecessors-front) at answers,
       (

@@ -24,7 +24,7 @@ use Rattle.operations.proofs.labels.labels.Code as code
 abbrev xs : List Param
 xs =
     number w32 ∷ shared 0 u32 ∷ shared 1 u16 ∷ shared 2 u16 ∷ shared 3 u32 ∷ shared 4 u16 ∷ shared 5 u8 ∷ closures 6
-    ∷ number w32 ∷ struct T′.mir T.the-type T′.the-laws ∷ written 7 u32 ∷ written 8 u16 ∷ []
+    ∷ number w32 ∷ number w32 ∷ struct T′.mir T.the-type T′.the-laws ∷ written 7 u32 ∷ written 8 u16 ∷ []
 
 pub labels-spec : {M : Type 1} → statement M
 unfolding code.routine

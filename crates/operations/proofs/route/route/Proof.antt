@@ -24,7 +24,7 @@ use Rattle.operations.proofs.route.route.Code as code
 abbrev xs : List Param
 xs =
     number w32 ∷ shared 0 u32 ∷ shared 1 u16 ∷ shared 2 u16 ∷ shared 3 u32 ∷ shared 4 u16 ∷ shared 5 u8 ∷ closures 6
-    ∷ number w32 ∷ struct T′.mir T.the-type T′.the-laws ∷ number w32 ∷ written 7 u16 ∷ []
+    ∷ number w32 ∷ number w32 ∷ struct T′.mir T.the-type T′.the-laws ∷ number w32 ∷ written 7 u16 ∷ []
 
 pub route-spec : {M : Type 1} → statement M
 unfolding code.routine

@@ -22,22 +22,22 @@ N s = let args = s .args in networkIn (args .junctions) (args .fences) (args .ta
 
 -- the tables as Labels leaves them, which are as long as they were
 abbrev labels : tie.After-labels-within → List ℕ
-labels c = c .labels-within .last .1 .1 .1 .1 .1 .1 .1 .1 .1 .1 .0
+labels c = c .labels-within .last .1 .1 .1 .1 .1 .1 .1 .1 .1 .1 .1 .0
 
 abbrev predecessors : tie.After-labels-within → List ℕ
-predecessors c = c .labels-within .last .1 .1 .1 .1 .1 .1 .1 .1 .1 .1 .1 .0
+predecessors c = c .labels-within .last .1 .1 .1 .1 .1 .1 .1 .1 .1 .1 .1 .1 .0
 
 labels-long : (c : tie.After-labels-within) → length (labels c) ≡ 200
-labels-long c = c .labels-within .kept .1 .1 .1 .1 .1 .1 .1 .1 .1 .1 .0
+labels-long c = c .labels-within .kept .1 .1 .1 .1 .1 .1 .1 .1 .1 .1 .1 .0
 
 predecessors-long : (c : tie.After-labels-within) → length (predecessors c) ≡ 200
-predecessors-long c = c .labels-within .kept .1 .1 .1 .1 .1 .1 .1 .1 .1 .1 .1 .0
+predecessors-long c = c .labels-within .kept .1 .1 .1 .1 .1 .1 .1 .1 .1 .1 .1 .1 .0
 
 called : (c : tie.After-labels-within) →
     let s = begun c in
-    LabelsCalled (N s) (s .args .source) (s .args .departure .number) (outcomeOf (c .labels-within .result))
+    LabelsCalled (N s) (s .args .asker) (s .args .source) (s .args .departure .number) (outcomeOf (c .labels-within .result))
     (take (s .args .junctions) (labels c)) (take (s .args .junctions) (predecessors c))
-called c = labels-called _ _ _ _ _ (omega arith) (omega arith) (c .labels-within .ensures)
+called c = labels-called _ _ _ _ _ _ (omega arith) (omega arith) (c .labels-within .ensures)
 
 returns : tie.Need-returns
 returns c = let asked : tie.After-labels-within = search in labels-refuses (called asked) (ap outcomeOf (c .before .refusal .given .1)) _ _

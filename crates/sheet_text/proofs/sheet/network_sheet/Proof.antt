@@ -9,6 +9,7 @@ use lib.Seq.{length-take-le}
 use denote.Ref.{now}
 use Rattle.model.specs.Network.{Network, network}
 use Rattle.model.specs.Rules.{replied}
+use Rattle.model.specs.Parties.{brigade}
 use Rattle.townfile.specs.FirstFault.{accepted}
 use Rattle.sheeting.specs.Sheet.{outcomeOf, sheetAnswer}
 use Rattle.sheeting.specs.declared.sheet.Sheeted.the-variants.{Written}
@@ -72,7 +73,7 @@ module _ (c : tie.After-sheet-parts) (told : c .sheet-parts .result ≡ Written)
   abbrev table : List ℕ
   table = c .sheet-parts .last .1 .1 .1 .1 .1 .1 .1 .1 .1 .1 .0
 
-  is-written : replied tt ≡ sheetAnswer (N s) (s .args .source) (departures s) (labels s) (figures s)
+  is-written : replied tt ≡ sheetAnswer (N s) brigade (s .args .source) (departures s) (labels s) (figures s)
   is-written = ap outcomeOf (sym told) ∙ c .sheet-parts .ensures .0
 
   long : 4 * s .args .junctions ≤ length table

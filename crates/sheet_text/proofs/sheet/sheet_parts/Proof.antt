@@ -38,7 +38,7 @@ returns c =
     let called : tie.After-sheet = search in
     let count = 4 * s .args .junctions in
     let part = length-take-le count (now (s .args .figures)) (few-figures s) in
-    let as-long = called .sheet .kept .1 .1 .1 .1 .1 .1 .1 .1 .1 .1 .1 .0 in
+    let as-long = called .sheet .kept .1 .1 .1 .1 .1 .1 .1 .1 .1 .1 .1 .1 .0 in
     let (answers, (labels-are, figures-are)) = called .sheet .ensures in
     (answers, take-at _ _ count (as-long ∙ part) ∙ figures-are)
 

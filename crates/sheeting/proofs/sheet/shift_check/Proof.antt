@@ -26,28 +26,32 @@ begun c = search
 abbrev N : tie.After-enum-told → Network
 N c = let args = begun c .args in networkIn (args .junctions) (args .fences) (args .tails) (args .heads) (args .lengths) (args .holds) (args .speeds) (closuresIn (args .closures))
 
-by-rules : (n : Network) (source : ℕ) (departures : List ℕ) → shiftCheck n source departures ≡ firstBroken (closedNetworkRules n ++ shiftRules n source departures) tt
+abbrev asker : tie.After-enum-told → ℕ
+asker c = begun c .args .asker
+
+by-rules : (n : Network) (asker source : ℕ) (departures : List ℕ) →
+    shiftCheck n asker source departures ≡ firstBroken (closedNetworkRules n asker ++ shiftRules n source departures) tt
 unfolding shiftCheck
-by-rules n source departures = refl
+by-rules n asker source departures = refl
 
 -- the network's rules are kept, and then those of this check, one by one
-abbrev network-kept : (c : tie.After-enum-told) → KeptSoFar (length (closedNetworkRules (N c)))
+abbrev network-kept : (c : tie.After-enum-told) → KeptSoFar (length (closedNetworkRules (N c) (asker c)))
 network-kept c =
     let source = begun c .args .source in
     let departures = now (begun c .args .departures) in
-    others-kept tt (closedNetworkRules (N c)) (shiftRules (N c) source departures) (by-rules (N c) source departures)
-    (network-keeps (N c) (c .before .before .closed-network-check .ensures) (c .enum-told .given .1))
+    others-kept tt (closedNetworkRules (N c) (asker c)) (shiftRules (N c) source departures) (by-rules (N c) (asker c) source departures)
+    (network-keeps (N c) (asker c) (c .before .before .closed-network-check .ensures) (c .enum-told .given .1))
 
-abbrev source-kept : (c : tie.Else1) → KeptSoFar (suc (length (closedNetworkRules (N (c .before)))))
+abbrev source-kept : (c : tie.Else1) → KeptSoFar (suc (length (closedNetworkRules (N (c .before)) (asker (c .before)))))
 source-kept c = next-kept (network-kept (c .before)) (ap not (lt-ltb _ _ (c .if1 .left)))
 
-abbrev list-kept : (c : tie.Else3) → let told : tie.After-enum-told = search in KeptSoFar (suc (suc (length (closedNetworkRules (N told)))))
+abbrev list-kept : (c : tie.Else3) → let told : tie.After-enum-told = search in KeptSoFar (suc (suc (length (closedNetworkRules (N told) (asker told)))))
 list-kept c = next-kept (source-kept (c .before .before)) (count-kept (c .before .if2 .left) (c .if3 .left))
 
 returns : tie.Need-returns
 returns c =
     let asked : tie.After-closed-network-check = search in
-    network-refuses _ _ _ (sym (ap outcomeOf (c .before .refusal .given .1)) ∙ asked .closed-network-check .ensures)
+    network-refuses _ _ _ _ (sym (ap outcomeOf (c .before .refusal .given .1)) ∙ asked .closed-network-check .ensures)
 
 -- where a test fails, its rule is the first broken
 source-refused : tie.Need-returns-2

@@ -2,18 +2,29 @@
 // refusals in their place among the others. Two streets in a row, each of ten metres at a metre a tick.
 use crate::print_labels;
 use libc::STDOUT_FILENO;
+use model::party::BOTH;
+use model::party::BRIGADE;
 
-fn print_record(row: [u32; 3]) {
+// Most rows are of records for both, which say nothing of it.
+fn print_party(party: u32) {
+    if party != BOTH {
+        io::write_all(STDOUT_FILENO, b" for ");
+        io::print_decimal(STDOUT_FILENO, party as u64);
+    }
+}
+
+fn print_record(row: [u32; 4]) {
     io::write_all(STDOUT_FILENO, b" ");
     io::print_decimal(STDOUT_FILENO, row[0] as u64);
     io::write_all(STDOUT_FILENO, b":");
     io::print_decimal(STDOUT_FILENO, row[1] as u64);
     io::write_all(STDOUT_FILENO, b"-");
     io::print_decimal(STDOUT_FILENO, row[2] as u64);
+    print_party(row[3]);
 }
 
 // Of a long list its first three records alone.
-fn print_closures(closures: &[[u32; 3]]) {
+fn print_closures(closures: &[[u32; 4]]) {
     io::write_all(STDOUT_FILENO, b", closed");
     let mut k = 0;
     while k < closures.len() {
@@ -28,7 +39,7 @@ fn print_closures(closures: &[[u32; 3]]) {
 }
 
 // The first street has a hold at its end.
-fn print_streets(departure: u32, hold: u16, closures: &[[u32; 3]]) {
+pub(crate) fn print_streets(departure: u32, hold: u16, closures: &[[u32; 4]], asker: u32) {
     let fences = [0u32];
     let tails = [0u16, 1];
     let heads = [1u16, 2];
@@ -51,6 +62,7 @@ fn print_streets(departure: u32, hold: u16, closures: &[[u32; 3]]) {
         &holds,
         &speeds,
         closures,
+        asker,
         departure,
         &mut earliest,
         &mut predecessors,
@@ -59,30 +71,30 @@ fn print_streets(departure: u32, hold: u16, closures: &[[u32; 3]]) {
 }
 
 fn print_held(departure: u32, hold: u16, arc: u32, first: u32, end: u32) {
-    let rows = [[arc, first, end]; 1];
-    print_streets(departure, hold, &rows);
+    let rows = [[arc, first, end, BOTH]; 1];
+    print_streets(departure, hold, &rows, BRIGADE);
 }
 
 fn print_one(departure: u32, arc: u32, first: u32, end: u32) {
     print_held(departure, 0, arc, first, end);
 }
 
-fn print_three(a: [u32; 3], b: [u32; 3], c: [u32; 3]) {
+fn print_three(a: [u32; 4], b: [u32; 4], c: [u32; 4]) {
     let rows = [a, b, c];
-    print_streets(100, 0, &rows);
+    print_streets(100, 0, &rows, BRIGADE);
 }
 
 // As many records as a question may bring, and one more.
-fn print_lists(hold: u16, row: [u32; 3]) {
+fn print_lists(hold: u16, row: [u32; 4]) {
     let most = [row; 64];
     let too_many = [row; 65];
-    print_streets(100, hold, &most);
-    print_streets(100, hold, &too_many);
+    print_streets(100, hold, &most, BRIGADE);
+    print_streets(100, hold, &too_many, BRIGADE);
 }
 
 pub(crate) fn print_rows() {
-    let none = [[0u32; 3]; 0];
-    print_streets(100, 0, &none);
+    let none = [[0u32; 4]; 0];
+    print_streets(100, 0, &none, BRIGADE);
     // From the tick before the departure on, from it on, and from the tick after it on.
     print_one(100, 0, 99, 105);
     print_one(100, 0, 100, 105);
@@ -111,14 +123,18 @@ pub(crate) fn print_rows() {
     // The other street.
     print_one(100, 1, 110, 115);
     // Records that overlap, that adjoin, in another order, and one twice.
-    print_three([0, 102, 106], [0, 104, 108], [1, 0, 1]);
-    print_three([0, 102, 105], [0, 105, 108], [1, 0, 1]);
-    print_three([0, 105, 108], [1, 0, 1], [0, 102, 105]);
-    print_three([0, 102, 108], [0, 102, 108], [0, 103, 107]);
+    print_three([0, 102, 106, BOTH], [0, 104, 108, BOTH], [1, 0, 1, BOTH]);
+    print_three([0, 102, 105, BOTH], [0, 105, 108, BOTH], [1, 0, 1, BOTH]);
+    print_three([0, 105, 108, BOTH], [1, 0, 1, BOTH], [0, 102, 105, BOTH]);
+    print_three(
+        [0, 102, 108, BOTH],
+        [0, 102, 108, BOTH],
+        [0, 103, 107, BOTH],
+    );
     // 64 records and 65. 32 comes before 36, and 36 before 37.
-    print_lists(0, [0, 0, 1]);
-    print_lists(1_201, [0, 0, 1]);
-    print_lists(0, [2, 0, 1]);
+    print_lists(0, [0, 0, 1, BOTH]);
+    print_lists(1_201, [0, 0, 1, BOTH]);
+    print_lists(0, [2, 0, 1, BOTH]);
     // Each part of 37 on both sides of its limit.
     print_one(100, 1, 0, 1);
     print_one(100, 2, 0, 1);

@@ -1,9 +1,9 @@
--- `closures::print_closures` ends with the records.
+-- `roadworks::print_closures` ends with the records.
 use borrow.Author.Needs.{needs}
 use Prim.Native.Nat.{_-_}
 use lib.ListN.{length}
-use Rattle.test_rows.proofs.closures.print_closures.Statement.{statement}
-use Rattle.test_rows.proofs.closures.print_closures.Tie as tie
+use Rattle.test_rows.proofs.roadworks.print_closures.Statement.{statement}
+use Rattle.test_rows.proofs.roadworks.print_closures.Tie as tie
 
 abbrev Inv-loop : tie.InvT-loop
 Inv-loop closures k₀ t4 t5 k = Unit {0}

@@ -439,9 +439,8 @@ pub fn random_towards(random: &mut Random, value: u32, bound: u32) -> u32 {
 mod tests {
     use super::*;
 
-    #[test]
-    fn rotates_speeds_with_the_start_of_the_day() {
-        let network = OwnedNetwork {
+    fn two_arcs() -> OwnedNetwork {
+        OwnedNetwork {
             junctions: 3,
             fences: vec![0, 100],
             tails: vec![0, 1],
@@ -449,7 +448,12 @@ mod tests {
             lengths: vec![50, 100],
             holds: vec![0, 5],
             speeds: vec![36, 18, 40, 20],
-        };
+        }
+    }
+
+    #[test]
+    fn rotates_speeds_with_the_start_of_the_day() {
+        let network = two_arcs();
         // The first interval is parted by the new midnight.
         let rotated = network.with_day_from(60);
         assert_eq!(rotated.fences, [0, 40, 863_940]);
@@ -464,15 +468,7 @@ mod tests {
 
     #[test]
     fn closes_daily_by_a_plan() {
-        let network = OwnedNetwork {
-            junctions: 3,
-            fences: vec![0, 100],
-            tails: vec![0, 1],
-            heads: vec![1, 2],
-            lengths: vec![50, 100],
-            holds: vec![0, 5],
-            speeds: vec![36, 18, 40, 20],
-        };
+        let network = two_arcs();
         let closure = |arc, first, end| Closure {
             arc,
             first,

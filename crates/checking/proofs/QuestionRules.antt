@@ -14,12 +14,13 @@ use Rattle.model.specs.declared.closure.Closure.{Closure}
 use Rattle.model.specs.Network.{Network, closedBy, networkFor, arcs}
 use Rattle.model.specs.Network as Plain
 use Rattle.model.specs.NetworkRules.{networkRules, networkCheck}
-use Rattle.model.specs.Parties.{brigade, KnownAsker, askerKeeps}
+use Rattle.model.specs.Parties.{brigade, depot, KnownAsker, askerKeeps}
 use Rattle.model.specs.Rules.{AllKept, refused}
 use Rattle.model.proofs.Closures.{closures-kept, kept-closures, kept-parties}
 use Rattle.model.proofs.NetworkRules.{kept-accepted, accepted-kept}
-use Rattle.model.proofs.Parties.{asker-known, known-asker, kept-for}
+use Rattle.model.proofs.Parties.{kept-for}
 use Rattle.model.proofs.Rules.{replies-kept, refused-before, kept-append, append-kept}
+use Rattle.model.proofs.Tests.{one-of, is-one-of}
 use Rattle.checking.specs.NetworkCheck.{outcomeOf}
 use Rattle.checking.specs.ClosedNetwork.{closureRules, closedNetworkRules, closedNetworkCheck, ClosuresPassWhenKept}
 use Rattle.checking.specs.Question.{startRules, questionRules, questionCheck, Taken}
@@ -46,13 +47,13 @@ closures-pass-when-kept N asker = (forward, back)
     forward : AllKept (closureRules N asker) → ClosuresKept (arcs N) (N .closures) × KnownAsker asker
     forward (few, (records, (parties, (known, _)))) = (
       closures-kept (arcs N) (N .closures) (ltb-false maxClosures (length (N .closures)) few) (not-false _ records) (not-false _ parties),
-      asker-known asker (not-false (askerKeeps asker) known),
+      one-of asker brigade depot (not-false (askerKeeps asker) known),
     )
 
     back : ClosuresKept (arcs N) (N .closures) × KnownAsker asker → AllKept (closureRules N asker)
     back (kept, known) = (
       le-ltb maxClosures (length (N .closures)) (kept .at-most),
-      (ap not (kept-closures (arcs N) (N .closures) kept), (ap not (kept-parties (arcs N) (N .closures) kept), (ap not (known-asker asker known), tt))),
+      (ap not (kept-closures (arcs N) (N .closures) kept), (ap not (kept-parties (arcs N) (N .closures) kept), (ap not (is-one-of asker brigade depot known), tt))),
     )
 
 -- A network with its closures keeps its rules exactly where both do in plain words, and the asker does.

@@ -4,12 +4,13 @@ use mathlib.Core.Path.{_≡_, sym, ap, _∙_}
 use mathlib.Core.Bool.{true, false, cond}
 use mathlib.Core.List.{List, [], _∷_, _++_, map-append, append-nil}
 use lib.ListN.{take, length, getD, set}
-use lib.Seq.{take-suc, take-suc-set, take-all}
+use lib.Seq.{take-suc, take-all}
 use native.Mathlib.Numerals.{add-one}
 use Rattle.model.specs.Closures.{closureOf, closuresOf}
 use Rattle.model.specs.Parties.{stops?, closuresFor}
 use Rattle.model.specs.declared.closure.Closure.{Closure}
 use Rattle.model.proofs.Parties.{for-append}
+use Rattle.closures.proofs.Writing.{row-written}
 
 module _ (asker : ℕ) (table : List (List ℕ)) where
   -- Those of the first k rows.
@@ -17,7 +18,7 @@ module _ (asker : ℕ) (table : List (List ℕ)) where
   keptOf k = closuresFor asker (closuresOf (take k table))
 
   module _ (k : ℕ) (inside : k < length table) where
-    -- The next row, and whether it stops the asker.
+    -- The next row.
     abbrev next : List ℕ
     next = getD table k []
 
@@ -28,9 +29,7 @@ module _ (asker : ℕ) (table : List (List ℕ)) where
 
     pub row-put : (rows : List (List ℕ)) (count : ℕ) → stops? asker (closureOf next) ≡ true → count < length rows → closuresOf (take count rows) ≡ keptOf k →
         closuresOf (take (count + 1) (set rows count next)) ≡ keptOf (k + 1)
-    row-put rows count stops room so-far =
-        rw (kept-more, stops, add-one, take-suc-set rows count next room)
-        (map-append closureOf (take count rows) (next ∷ []) ∙ ap (λ kept. kept ++ (closureOf next ∷ [])) so-far)
+    row-put rows count stops room so-far = rw (kept-more, stops) (row-written rows count next room ∙ rw so-far)
 
     pub row-passed : (rows : List (List ℕ)) (count : ℕ) → stops? asker (closureOf next) ≡ false → closuresOf (take count rows) ≡ keptOf k →
         closuresOf (take count rows) ≡ keptOf (k + 1)

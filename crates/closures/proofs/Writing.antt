@@ -18,11 +18,15 @@ use Rattle.closures.proofs.Reading.{read-length, read-taken}
 abbrev pub rowOf : Closure → List ℕ
 rowOf x = x .arc ∷ x .first ∷ x .end ∷ x .party ∷ []
 
+-- One more row behind the first i.
+pub row-written : (rows : List (List ℕ)) (i : ℕ) (row : List ℕ) → i < length rows →
+    closuresOf (take (i + 1) (set rows i row)) ≡ closuresOf (take i rows) ++ (closureOf row ∷ [])
+row-written rows i row inside = rw (add-one, take-suc-set rows i row inside) (map-append closureOf (take i rows) (row ∷ []))
+
 pub one-more : (list : List Closure) (rows : List (List ℕ)) (i : ℕ) → i < length list → i < length rows → closuresOf (take i rows) ≡ take i list
     → closuresOf (take (i + 1) (set rows i (rowOf (getD list i noClosure)))) ≡ take (i + 1) list
 one-more list rows i in-list in-rows so-far =
-    rw (add-one, take-suc-set rows i (rowOf (getD list i noClosure)) in-rows, take-suc list i noClosure in-list)
-    (map-append closureOf (take i rows) (rowOf (getD list i noClosure) ∷ []) ∙ ap (λ l. l ++ (getD list i noClosure ∷ [])) so-far)
+    row-written rows i (rowOf (getD list i noClosure)) in-rows ∙ rw (so-far, add-one, take-suc list i noClosure in-list)
 
 -- the rows that a function has written, once it has written them all, where the array was full
 abbrev Written : Closures → List (List ℕ) → Type 0

@@ -2,9 +2,9 @@
 -- without records changes nothing. A list's test and its plain rules agree record by record.
 use Prim.Native.Nat.{ℕ, zero, suc, _+_, _≤_, _<_}
 use mathlib.Core.Path.{_≡_, refl, _∙_}
-use mathlib.Core.Bool.{Bool, true, false, _||_, cond}
+use mathlib.Core.Bool.{Bool, true, false, cond, or-true}
 use mathlib.Core.List.{List, [], _∷_}
-use mathlib.Core.Logic.{_⊎_, inl, inr, ⊎-elim}
+use mathlib.Core.Logic.{⊎-elim}
 use native.Mathlib.Nat.{mul-zero}
 use native.Mathlib.Omega.{arith}
 use lib.Dec.{leb, ltb, eqb}
@@ -18,6 +18,7 @@ use Rattle.model.specs.Network.{speedOn, driveOf, NoClosures}
 use Rattle.model.specs.declared.closure.Closure.{Closure}
 use Rattle.model.proofs.Covered.{covered-steady}
 use Rattle.model.proofs.Rules.{both-true, true-three, every-at, at-every}
+use Rattle.model.proofs.Tests.{either-true}
 
 -- ---- What is closed
 
@@ -29,14 +30,6 @@ closes-tested c a t e =
 tested-closes : (c : Closure) (a t : ℕ) → Closes c a t → closes? c a t ≡ true
 tested-closes c a t closes =
     both-true (both-true (eq-eqb (c .arc) a (closes .its-arc)) (le-leb (c .first) t (closes .from-first))) (lt-ltb t (c .end) (closes .before-end))
-
-pub either-true : (a b : Bool) → (a || b) ≡ true → (a ≡ true) ⊎ (b ≡ true)
-either-true true b e = inl refl
-either-true false b e = inr e
-
-pub or-true : (a : Bool) {b : Bool} → b ≡ true → (a || b) ≡ true
-or-true true e = refl
-or-true false e = e
 
 tested : (closures : List Closure) (a t : ℕ) → closed? closures a t ≡ true → Closed closures a t
 unfolding closed?
@@ -51,7 +44,7 @@ is-tested : (closures : List Closure) (a t k : ℕ) → k < length closures → 
 unfolding closed?
 is-tested [] a t k inside closes = absurd (omega arith)
 is-tested (c ∷ closures) a t zero inside closes = rw (tested-closes c a t closes)
-is-tested (c ∷ closures) a t (suc k) inside closes = or-true (closes? c a t) (is-tested closures a t k (omega arith) closes)
+is-tested (c ∷ closures) a t (suc k) inside closes = rw (is-tested closures a t k (omega arith) closes) (or-true (closes? c a t))
 
 pub closed-when-tested : ClosedWhenTested
 closed-when-tested closures a t = (tested closures a t, (λ closed. is-tested closures a t (closed .0) (closed .1) (closed .2)))

@@ -3,43 +3,24 @@ use Prim.Native.Nat.{ℕ, zero, suc, _≤_, _<_}
 use mathlib.Core.Path.{_≡_, refl, ap}
 use mathlib.Core.Bool.{Bool, true, false, cond}
 use mathlib.Core.List.{List, [], _∷_, _++_}
-use mathlib.Core.Logic.{inl, inr, ⊎-elim}
 use native.Mathlib.Omega.{arith}
-use lib.Dec.{eqb}
 use lib.ListN.{length, getD}
-use borrow.Author.Tests.{eqb-true, eq-eqb}
 use Rattle.model.specs.Closures.{noClosure, Closes, Closed, closed?, withClosures, closureKeeps, partyKeeps, ClosuresKept}
 use Rattle.model.specs.Intervals.{speedAt}
 use Rattle.model.specs.Network.{speedsOf, speedOn, SpeedForAsker}
-use Rattle.model.specs.Parties.{both, brigade, depot, Stops, ClosedTo, stops?, closuresFor, KnownAsker, askerKeeps, StoppedByOwnAndBoth}
+use Rattle.model.specs.Parties.{both, Stops, ClosedTo, stops?, closuresFor, StoppedByOwnAndBoth}
 use Rattle.model.specs.Rules.{every}
 use Rattle.model.specs.declared.closure.Closure.{Closure}
-use Rattle.model.proofs.Closures.{either-true, or-true, closed-when-tested, closures-kept, kept-closures, kept-parties}
+use Rattle.model.proofs.Closures.{closed-when-tested, closures-kept, kept-closures, kept-parties}
 use Rattle.model.proofs.Rules.{both-true, true-both}
-
--- ---- The tests
-
-stops-tested : (asker : ℕ) (c : Closure) → stops? asker c ≡ true → Stops asker c
-stops-tested asker c e =
-    ⊎-elim (λ h. inl (eqb-true (c .party) both h)) (λ h. inr (eqb-true (c .party) asker h)) (either-true (eqb (c .party) both) (eqb (c .party) asker) e)
-
-tested-stops : (asker : ℕ) (c : Closure) → Stops asker c → stops? asker c ≡ true
-tested-stops asker c (inl shared) = rw (eq-eqb (c .party) both shared)
-tested-stops asker c (inr own) = or-true (eqb (c .party) both) (eq-eqb (c .party) asker own)
+use Rattle.model.proofs.Tests.{one-of, is-one-of}
 
 pub not-stopping : (asker : ℕ) (c : Closure) → (Stops asker c → ⊥) → stops? asker c ≡ false
 not-stopping asker c none = go (stops? asker c) refl
   where
     go : (stops : Bool) → stops? asker c ≡ stops → stops ≡ false
-    go true e = absurd (none (stops-tested asker c e))
+    go true e = absurd (none (one-of (c .party) both asker e))
     go false e = refl
-
-pub asker-known : (asker : ℕ) → askerKeeps asker ≡ true → KnownAsker asker
-asker-known asker e = ⊎-elim (λ h. inl (eqb-true asker brigade h)) (λ h. inr (eqb-true asker depot h)) (either-true (eqb asker brigade) (eqb asker depot) e)
-
-pub known-asker : (asker : ℕ) → KnownAsker asker → askerKeeps asker ≡ true
-known-asker asker (inl first) = rw (eq-eqb asker brigade first)
-known-asker asker (inr second) = or-true (eqb asker brigade) (eq-eqb asker depot second)
 
 -- ---- The records that stop the asker
 
@@ -56,14 +37,14 @@ module _ (asker : ℕ) where
           ((k : ℕ) → k < length (closuresFor asker closures) → Closes (getD (closuresFor asker closures) k noClosure) a t → ClosedTo asker closures a t) →
           let kept = cond stops (c ∷ closuresFor asker closures) (closuresFor asker closures) in
           k < length kept → Closes (getD kept k noClosure) a t → ClosedTo asker (c ∷ closures) a t
-      go true e zero rest inside closes = (0, omega arith, stops-tested asker c e, closes)
+      go true e zero rest inside closes = (0, omega arith, one-of (c .party) both asker e, closes)
       go true e (suc k) rest inside closes = later c closures a t (rest k (omega arith) closes)
       go false e k rest inside closes = later c closures a t (rest k inside closes)
 
   stopped-kept : (closures : List Closure) (a t k : ℕ) → k < length closures → Stops asker (getD closures k noClosure) → Closes (getD closures k noClosure) a t →
       Closed (closuresFor asker closures) a t
   stopped-kept [] a t k inside stops closes = absurd (omega arith)
-  stopped-kept (c ∷ closures) a t zero inside stops closes = rw (tested-stops asker c stops) (0, omega arith, closes)
+  stopped-kept (c ∷ closures) a t zero inside stops closes = rw (is-one-of (c .party) both asker stops) (0, omega arith, closes)
   stopped-kept (c ∷ closures) a t (suc k) inside stops closes = go (stops? asker c) (stopped-kept closures a t k (omega arith) stops closes)
     where
       go : (stops : Bool) → Closed (closuresFor asker closures) a t → Closed (cond stops (c ∷ closuresFor asker closures) (closuresFor asker closures)) a t

@@ -1,12 +1,12 @@
 -- Nobody learns of the other party's records: the asker finds the same network, and of each list the rules on it are kept, whatever else it has.
 use Prim.Native.Nat.{ℕ}
-use mathlib.Core.Path.{_≡_, refl, ap}
-use mathlib.Core.Bool.{true, false, cond}
+use mathlib.Core.Path.{_≡_, refl, sym, ap, _∙_}
+use mathlib.Core.Bool.{cond}
 use mathlib.Core.List.{List, _∷_}
 use lib.Dec.{ltb}
 use lib.ListN.{length}
 use borrow.Author.Tests.{le-ltb}
-use Rattle.model.specs.Closures.{maxClosures, closureKeeps, partyKeeps, ClosuresKept}
+use Rattle.model.specs.Closures.{maxClosures, closureKeeps, partyKeeps}
 use Rattle.model.specs.Network.{Network, closedBy, arcs}
 use Rattle.model.specs.Parties.{stops?, closuresFor}
 use Rattle.model.specs.Rules.{every}
@@ -25,23 +25,16 @@ same-kept {asker} (in-both c rest) = ap (λ kept. cond (stops? asker c) (c ∷ k
 same-kept {asker} (in-first c none rest) = rw (not-stopping asker c none) (same-kept rest)
 same-kept {asker} (in-second c none rest) = rw (not-stopping asker c none) (same-kept rest)
 
--- The tests of 36, 37 and 38, of a list that keeps them.
-module _ {arcs : ℕ} (closures : List Closure) (kept : ClosuresKept arcs closures) where
-  few : ltb maxClosures (length closures) ≡ false
-  few = le-ltb maxClosures (length closures) (kept .at-most)
-
-  records : every (closureKeeps arcs) closures ≡ true
-  records = kept-closures arcs closures kept
-
-  parties : every partyKeeps closures ≡ true
-  parties = kept-parties arcs closures kept
-
 module _ (N : Network) (asker : ℕ) (first second : List Closure) (agree : Agree asker (arcs N) first second) where
-  a : ClosuresKept (arcs N) first
-  a = agree .first-kept
+  -- Both lists keep 36, 37 and 38, so that the tests say the same of them.
+  few : ltb maxClosures (length first) ≡ ltb maxClosures (length second)
+  few = le-ltb maxClosures (length first) (agree .first-kept .at-most) ∙ sym (le-ltb maxClosures (length second) (agree .second-kept .at-most))
 
-  b : ClosuresKept (arcs N) second
-  b = agree .second-kept
+  records : every (closureKeeps (arcs N)) first ≡ every (closureKeeps (arcs N)) second
+  records = kept-closures (arcs N) first (agree .first-kept) ∙ sym (kept-closures (arcs N) second (agree .second-kept))
+
+  parties : every partyKeeps first ≡ every partyKeeps second
+  parties = kept-parties (arcs N) first (agree .first-kept) ∙ sym (kept-parties (arcs N) second (agree .second-kept))
 
   -- the asker finds the same network
   kept : closuresFor asker first ≡ closuresFor asker second
@@ -50,18 +43,17 @@ module _ (N : Network) (asker : ℕ) (first second : List Closure) (agree : Agre
   labels-same : (source departure : ℕ) (labels predecessors : List ℕ) →
       labelsAnswer (closedBy N first) asker source departure labels predecessors ≡ labelsAnswer (closedBy N second) asker source departure labels predecessors
   unfolding labelsAnswer
-  labels-same source departure labels predecessors = rw (few first a, records first a, parties first a, few second b, records second b, parties second b)
+  labels-same source departure labels predecessors = rw (few, records, parties)
 
   route-same : (source departure destination : ℕ) (arcs : List ℕ) →
       routeAnswer (closedBy N first) asker source departure destination arcs ≡ routeAnswer (closedBy N second) asker source departure destination arcs
   unfolding routeAnswer
-  route-same source departure destination arcs =
-      rw (few first a, records first a, parties first a, few second b, records second b, parties second b, kept)
+  route-same source departure destination arcs = rw (few, records, parties, kept)
 
   sheet-same : (source : ℕ) (departures labels figures : List ℕ) →
       sheetAnswer (closedBy N first) asker source departures labels figures ≡ sheetAnswer (closedBy N second) asker source departures labels figures
   unfolding sheetAnswer
-  sheet-same source departures labels figures = rw (few first a, records first a, parties first a, few second b, records second b, parties second b)
+  sheet-same source departures labels figures = rw (few, records, parties)
 
 pub isolation : Isolation
 isolation N asker first second agree = record {

@@ -2,17 +2,16 @@
 -- the network's own rules or by 36, whatever the records are.
 use Prim.Native.Nat.{ℕ, _<_}
 use mathlib.Core.Path.{_≡_, refl, ap, _∙_}
-use mathlib.Core.Bool.{Bool, true, false, not, cond}
+use mathlib.Core.Bool.{Bool, true, false, cond}
 use mathlib.Core.List.{List, [], _∷_, _++_}
 use native.Mathlib.Omega.{arith}
 use lib.Dec.{ltb}
 use lib.ListN.{length, length-map}
 use borrow.Author.Tests.{lt-ltb}
-use Rattle.model.specs.Closures.{maxClosures, closureKeeps, partyKeeps, closuresOf, closureOf}
+use Rattle.model.specs.Closures.{maxClosures, closuresOf, closureOf}
 use Rattle.model.specs.Network.{Network, closedBy, networkFor, arcs}
 use Rattle.model.specs.NetworkRules.{networkRules}
-use Rattle.model.specs.Parties.{askerKeeps}
-use Rattle.model.specs.Rules.{refused, Rule, _if_, firstBroken, every}
+use Rattle.model.specs.Rules.{refused, Rule, _if_, firstBroken}
 use Rattle.model.specs.declared.closure.Closure.{Closure}
 use Rattle.model.proofs.Rules.{refused-before}
 use Rattle.checking.specs.ClosedNetwork.{closedNetworkRules, closedNetworkCheck}
@@ -41,22 +40,21 @@ then-refused reply (first ∷ rules) rule more broken = go (first .broken) (then
     go false e = e
 
 -- The network's own rules decide, or 36.
-module _ (N : Network) (asker : ℕ) where
-  abbrev number : ℕ
-  number = firstNumber (networkRules N) 36
+abbrev number : Network → ℕ
+number N = firstNumber (networkRules N) 36
 
-  overlong : (closures : List Closure) → maxClosures < length closures → closedNetworkCheck (closedBy N closures) asker ≡ refused number
+module _ (N : Network) (asker : ℕ) where
+  overlong : (closures : List Closure) → maxClosures < length closures → closedNetworkCheck (closedBy N closures) asker ≡ refused (number N)
   unfolding closedNetworkCheck
   overlong closures many =
-      let rest = (37 if not (every (closureKeeps (arcs N)) closures)) ∷ (38 if not (every partyKeeps closures)) ∷ (39 if not (askerKeeps asker)) ∷ [] in
-      then-refused tt (networkRules N) (36 if ltb maxClosures (length closures)) rest
+      then-refused tt (networkRules N) (36 if ltb maxClosures (length closures)) _
       (lt-ltb maxClosures (length closures) many)
 
   -- And what is asked after them decides nothing.
   overlong-before : (closures : List Closure) → maxClosures < length closures → (more : List Rule) {Reply : Type 0} (reply : Reply) →
-      firstBroken (closedNetworkRules (closedBy N closures) asker ++ more) reply ≡ refused number
+      firstBroken (closedNetworkRules (closedBy N closures) asker ++ more) reply ≡ refused (number N)
   unfolding closedNetworkCheck
-  overlong-before closures many more reply = refused-before (closedNetworkRules (closedBy N closures) asker) more tt reply number (overlong closures many)
+  overlong-before closures many more reply = refused-before (closedNetworkRules (closedBy N closures) asker) more tt reply (number N) (overlong closures many)
 
 -- ---- The operations
 
@@ -81,11 +79,11 @@ alike {answer = answer} {first} {second} too-long {rows = rows} stand ends = (
     each {xs} (too-many many many-rows) = too-long .same (closuresOf rows) xs (omega (arith, many-rows, length-map rows closureOf)) many
 
 module _ (N : Network) (asker source departure : ℕ) (labels predecessors : List ℕ) where
-  labels-overlong : (closures : List Closure) → maxClosures < length closures → labelsAnswer (closedBy N closures) asker source departure labels predecessors ≡ refused (number N asker)
+  labels-overlong : (closures : List Closure) → maxClosures < length closures → labelsAnswer (closedBy N closures) asker source departure labels predecessors ≡ refused (number N)
   unfolding labelsAnswer
   labels-overlong closures many =
       let M = closedBy N closures in
-      refused-before {Reply = ℕ} (questionRules M asker source departure) (bufferRules M labels predecessors) 0 tt (number N asker)
+      refused-before {Reply = ℕ} (questionRules M asker source departure) (bufferRules M labels predecessors) 0 tt (number N)
       (overlong-before N asker closures many (startRules M source departure) 0)
 
   pub labels-too-long : SameTooLong (λ closures. labelsAnswer (closedBy N closures) asker source departure labels predecessors)
@@ -94,11 +92,11 @@ module _ (N : Network) (asker source departure : ℕ) (labels predecessors : Lis
   labels-too-long = record { same = λ some others many more. rw (labels-overlong some many, labels-overlong others more) (refl, (refl, refl)) }
 
 module _ (N : Network) (asker source departure destination : ℕ) (arcs : List ℕ) where
-  route-overlong : (closures : List Closure) → maxClosures < length closures → routeAnswer (closedBy N closures) asker source departure destination arcs ≡ refused (number N asker)
+  route-overlong : (closures : List Closure) → maxClosures < length closures → routeAnswer (closedBy N closures) asker source departure destination arcs ≡ refused (number N)
   unfolding routeAnswer
   route-overlong closures many =
       let M = closedBy N closures in
-      refused-before {Reply = ℕ} (questionRules M asker source departure) (destinationRules M destination ++ foundRules (networkFor M asker) source departure destination arcs) 0 _ (number N asker)
+      refused-before {Reply = ℕ} (questionRules M asker source departure) (destinationRules M destination ++ foundRules (networkFor M asker) source departure destination arcs) 0 _ (number N)
       (overlong-before N asker closures many (startRules M source departure) 0)
 
   pub route-too-long : SameTooLong (λ closures. routeAnswer (closedBy N closures) asker source departure destination arcs)
@@ -106,11 +104,11 @@ module _ (N : Network) (asker source departure destination : ℕ) (arcs : List �
   route-too-long = record { same = λ some others many more. rw (route-overlong some many, route-overlong others more) (refl, (refl, refl)) }
 
 module _ (N : Network) (asker source : ℕ) (departures labels figures : List ℕ) where
-  sheet-overlong : (closures : List Closure) → maxClosures < length closures → sheetAnswer (closedBy N closures) asker source departures labels figures ≡ refused (number N asker)
+  sheet-overlong : (closures : List Closure) → maxClosures < length closures → sheetAnswer (closedBy N closures) asker source departures labels figures ≡ refused (number N)
   unfolding sheetAnswer
   sheet-overlong closures many =
       let M = closedBy N closures in
-      refused-before {Reply = ℕ} (closedNetworkRules M asker ++ shiftRules M source departures) (sheetBufferRules M departures labels figures) 0 tt (number N asker)
+      refused-before {Reply = ℕ} (closedNetworkRules M asker ++ shiftRules M source departures) (sheetBufferRules M departures labels figures) 0 tt (number N)
       (overlong-before N asker closures many (shiftRules M source departures) 0)
 
   pub sheet-too-long : SameTooLong (λ closures. sheetAnswer (closedBy N closures) asker source departures labels figures)

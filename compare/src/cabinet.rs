@@ -62,6 +62,31 @@ mod exports {
             predecessor_count: usize,
         ) -> u32;
 
+        pub fn exports_passes(
+            junctions: u32,
+            fences: *const u32,
+            fence_count: usize,
+            tails: *const u16,
+            tail_count: usize,
+            heads: *const u16,
+            head_count: usize,
+            lengths: *const u32,
+            length_count: usize,
+            holds: *const u16,
+            hold_count: usize,
+            speeds: *const u8,
+            speed_count: usize,
+            closures: *const Closure,
+            closure_count: usize,
+            asker: u32,
+            source: u32,
+            departure: u32,
+            labels: *mut u32,
+            label_count: usize,
+            predecessors: *mut u16,
+            predecessor_count: usize,
+        ) -> u32;
+
         pub fn exports_route(
             junctions: u32,
             fences: *const u32,
@@ -241,6 +266,35 @@ pub fn labels(
         )
     };
     accepted(answer)
+}
+
+pub fn passes(
+    network: &Network,
+    closures: &[Closure],
+    asker: u32,
+    source: u32,
+    departure: u32,
+    labels: &mut [u32],
+    predecessors: &mut [u16],
+) -> Result<u32, Refusal> {
+    // SAFETY: each pointer and length belong to one slice lent for the call,
+    // the last two for writing and to nobody else.
+    let answer = unsafe {
+        on_network!(
+            exports_passes,
+            network,
+            closures.as_ptr(),
+            closures.len(),
+            asker,
+            source,
+            departure,
+            labels.as_mut_ptr(),
+            labels.len(),
+            predecessors.as_mut_ptr(),
+            predecessors.len(),
+        )
+    };
+    decoded(answer)
 }
 
 pub fn route(

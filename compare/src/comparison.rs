@@ -27,7 +27,7 @@ pub struct Check {
     pub refuses: &'static [RangeInclusive<u32>],
 }
 
-pub const CHECKS: [&Check; 44] = [
+pub const CHECKS: [&Check; 47] = [
     &cases::NETWORK_CHECK,
     &cases::ARC_ARRIVAL,
     &cases::LABELS,
@@ -67,6 +67,9 @@ pub const CHECKS: [&Check; 44] = [
     &properties::OTHERS_CLOSURES,
     &properties::PARTIES_EXCHANGED,
     &properties::OWN_OR_BOTH,
+    &properties::PASSES_OF_PATHS,
+    &properties::PASSES_RENUMBERED,
+    &properties::PASSES_TWICE,
     &properties::CONVERTED_AS_WRITTEN,
     &properties::THERE_AND_BACK,
     &properties::CONVERTED_TOWN,
@@ -78,8 +81,8 @@ pub const CHECKS: [&Check; 44] = [
 #[derive(Clone, Copy, Debug, PartialEq, Eq, PartialOrd, Ord)]
 pub enum Outcome {
     Answered,
-    /// The arc cannot be driven, there is no name, or midnight, the holds, the closures or
-    /// their parties make no difference.
+    /// The arc cannot be driven, there is no name, or midnight, the holds, the closures,
+    /// their parties or the arcs' numbers make no difference.
     Nothing,
     Refused(Refusal),
 }

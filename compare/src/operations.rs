@@ -6,19 +6,24 @@ use crate::{cabinet, reference};
 /// Takes a text and a lent output, and returns the result's length.
 pub type Converter = fn(&[u8], &mut [u8]) -> Result<usize, LoadRefusal>;
 
+/// Takes a question, and lent labels and predecessors.
+pub type Labelling<R> = fn(
+    network: &Network,
+    closures: &[Closure],
+    asker: u32,
+    source: u32,
+    departure: u32,
+    labels: &mut [u32],
+    predecessors: &mut [u16],
+) -> Result<R, Refusal>;
+
 #[expect(clippy::type_complexity, reason = "the signatures are the operations'")]
 pub struct Operations {
     pub network_check: fn(&Network) -> Result<(), Refusal>,
     pub arc_arrival: fn(u32, u32, u32, u32, &[u32], &[u8]) -> Result<Option<Arrival>, Refusal>,
-    pub labels: fn(
-        network: &Network,
-        closures: &[Closure],
-        asker: u32,
-        source: u32,
-        departure: u32,
-        labels: &mut [u32],
-        predecessors: &mut [u16],
-    ) -> Result<(), Refusal>,
+    pub labels: Labelling<()>,
+    /// Returns the number of passes.
+    pub passes: Labelling<u32>,
     pub route: fn(
         network: &Network,
         closures: &[Closure],
@@ -66,6 +71,7 @@ pub const REFERENCE: Operations = Operations {
     network_check: reference::network_check,
     arc_arrival: reference::arc_arrival,
     labels: reference::labels,
+    passes: reference::passes,
     route: reference::route,
     sheet: reference::sheet,
     load: reference::load,
@@ -79,6 +85,7 @@ pub const CABINET: Operations = Operations {
     network_check: cabinet::network_check,
     arc_arrival: cabinet::arc_arrival,
     labels: cabinet::labels,
+    passes: cabinet::passes,
     route: cabinet::route,
     sheet: cabinet::sheet,
     load: cabinet::load,

@@ -1,5 +1,5 @@
 //! The programs' size limit, midnight and the last tick, an arc's intervals, holds,
-//! closures and their parties, a sheet's list and buffers, and towns of fixed size.
+//! closures and their parties, passes, a sheet's list and buffers, and towns of fixed size.
 
 #[path = "boundaries/closures.rs"]
 mod closures;
@@ -9,6 +9,8 @@ mod holds;
 mod intervals;
 #[path = "boundaries/parties.rs"]
 mod parties;
+#[path = "boundaries/passes.rs"]
+mod passes;
 
 use compare::cabinet;
 use compare::comparison::answers::{self, TableLengths};
@@ -291,7 +293,7 @@ fn sheet_number(
     ))
 }
 
-/// The numbers of Labels, Route and Sheet from 9 on, each alone and with all later ones,
+/// The numbers of Labels and Passes, Route and Sheet from 9 on, each alone and with all later ones,
 /// on a town of ten junctions that is refused with the number before them, or with none.
 fn assert_numbers_after(network: &OwnedNetwork, closures: &[Closure], asker: u32, before: u32) {
     let expect = |number| if before == 0 { number } else { before };

@@ -25,7 +25,7 @@ fn arc_arrival() {
 }
 
 #[test]
-fn labels() {
+fn labels_and_passes() {
     run(&cases::LABELS);
 }
 
@@ -207,6 +207,21 @@ fn parties_exchanged() {
 #[test]
 fn own_or_both() {
     run(&properties::OWN_OR_BOTH);
+}
+
+#[test]
+fn passes_of_paths() {
+    run(&properties::PASSES_OF_PATHS);
+}
+
+#[test]
+fn passes_renumbered() {
+    run(&properties::PASSES_RENUMBERED);
+}
+
+#[test]
+fn passes_twice() {
+    run(&properties::PASSES_TWICE);
 }
 
 #[test]

@@ -1,6 +1,6 @@
-//! The reckonings that document 01 keeps, alone and on a sheet, and more of them around
-//! midnight, with holds and with closures, put to the library and the reference. An arc's
-//! have their intervals.
+//! The reckonings that document 01 keeps, alone, on a sheet and by passes, and more of them
+//! around midnight, with holds and with closures, put to the library and the reference. An
+//! arc's have their intervals.
 
 use compare::comparison::program::{ARRIVALS, Run, SHEET, TO_NEW, TO_OLD};
 use compare::inputs::examples::{HELD_TOWN, HELD_TOWN_TEXT, TABLE_1, TOWN, TOWN_TEXT};
@@ -471,6 +471,77 @@ fn the_program() {
     let run = ARRIVALS.run(format!("QU 0 10\n{TOWN_TEXT}").as_bytes());
     let expected = "junction arrival arc\n0 10 -\n1 60 0\n2 100 1\n";
     assert_eq!(run, Run::ended(expected, 0));
+}
+
+/// The number of passes from junction 0, with the labels and predecessors.
+fn passes(
+    operations: &Operations,
+    network: &Network,
+    departure: u32,
+) -> Result<(u32, Vec<u32>, Vec<u16>), Refusal> {
+    let mut labels = vec![7; network.junctions as usize];
+    let mut predecessors = vec![7; network.junctions as usize];
+    let buffers = (&mut labels[..], &mut predecessors[..]);
+    let number = (operations.passes)(network, &[], DEPOT, 0, departure, buffers.0, buffers.1)?;
+    Ok((number, labels, predecessors))
+}
+
+#[test]
+fn the_passes() {
+    // The town with its arcs numbered from the last to the first.
+    let reversed = Network {
+        tails: &[1, 0, 0],
+        heads: &[2, 2, 1],
+        speeds: &[36, 36, 40, 20, 36, 18],
+        ..TOWN
+    };
+    let held = Network {
+        holds: &[7, 1_200, 0],
+        ..reversed
+    };
+    for (network, number, tick, arcs) in [
+        (&TOWN, 2, 100, [0, 1]),
+        (&HELD_TOWN, 2, 117, [0, 2]),
+        (&reversed, 2, 100, [2, 1]),
+        // The second pass lowers what the first found by the long hold.
+        (&held, 3, 117, [2, 0]),
+    ] {
+        let expected = (number, vec![10, 60, tick], vec![NO_ARC, arcs[0], arcs[1]]);
+        for operations in BOTH {
+            assert_eq!(passes(&operations, network, 10), Ok(expected.clone()));
+            assert_eq!(passes(&operations, network, 864_000), Err(Refusal(10)));
+        }
+    }
+}
+
+#[test]
+fn passes_of_document_004() {
+    // With the arcs numbered from the last to the first, d is reached in as many passes as its
+    // route has arcs.
+    let mut tails = TABLE_1.tails.to_vec();
+    let mut heads = TABLE_1.heads.to_vec();
+    tails.reverse();
+    heads.reverse();
+    let speeds: Vec<u8> = (0..7)
+        .rev()
+        .flat_map(|arc| TABLE_1.arc_speeds(arc).to_vec())
+        .collect();
+    let reversed = Network {
+        tails: &tails,
+        heads: &heads,
+        speeds: &speeds,
+        ..TABLE_1
+    };
+    for operations in BOTH {
+        for (departure, number) in [(9_000, 4), (21_000, 3), (24_000, 3), (27_000, 3)] {
+            let (ticks, arcs) = labels(&operations, &TABLE_1, departure).expect("accepted");
+            let expected = (2, ticks.clone(), arcs);
+            assert_eq!(passes(&operations, &TABLE_1, departure), Ok(expected));
+            let (found, reversed_ticks, _) =
+                passes(&operations, &reversed, departure).expect("accepted");
+            assert_eq!((found, reversed_ticks), (number, ticks));
+        }
+    }
 }
 
 #[test]

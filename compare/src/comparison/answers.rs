@@ -7,13 +7,13 @@ use super::program::{Program, Run};
 use super::{Difference, Outcome};
 use crate::inputs::OwnedNetwork;
 use crate::inputs::networks::LoneArc;
-use crate::operations::{CABINET, Operations, REFERENCE};
+use crate::operations::{CABINET, Labelling, Operations, REFERENCE};
 use crate::reference::limits::{FIGURES, REFUSED};
 use crate::reference::{Closure, Form, Refusal};
 
 /// What an operation replied and what the lent buffers then hold.
 #[derive(Debug, PartialEq)]
-struct Answer<R, B> {
+pub(super) struct Answer<R, B> {
     reply: R,
     /// Whether nothing but the entries due was written.
     kept: bool,
@@ -31,6 +31,30 @@ impl<R> Answer<R, ()> {
     }
 }
 
+/// Expects the same answer of both, and returns it.
+fn agreed<R, B>(
+    question: &str,
+    input: impl Fn() -> Vec<u8>,
+    answer: impl Fn(&Operations) -> Answer<R, B>,
+) -> Result<Answer<R, B>, Difference>
+where
+    R: Debug + PartialEq,
+    B: Debug + PartialEq,
+{
+    let expected = answer(&REFERENCE);
+    let found = answer(&CABINET);
+    if found == expected && found.kept {
+        return Ok(found);
+    }
+    Err(Difference {
+        question: question.to_owned(),
+        input: input(),
+        expected: format!("{expected:?}"),
+        found: format!("{found:?}"),
+    })
+}
+
+/// The same for its reply alone.
 fn compare<R, B>(
     question: &str,
     input: impl Fn() -> Vec<u8>,
@@ -40,17 +64,7 @@ where
     R: Debug + PartialEq,
     B: Debug + PartialEq,
 {
-    let expected = answer(&REFERENCE);
-    let found = answer(&CABINET);
-    if found == expected && found.kept {
-        return Ok(found.reply);
-    }
-    Err(Difference {
-        question: question.to_owned(),
-        input: input(),
-        expected: format!("{expected:?}"),
-        found: format!("{found:?}"),
-    })
+    agreed(question, input, answer).map(|answer| answer.reply)
 }
 
 pub(super) fn shown(network: &OwnedNetwork) -> Vec<u8> {
@@ -92,38 +106,74 @@ pub fn arc_arrival(arc: &LoneArc, departure: u32, interval: u32) -> Result<Outco
     })
 }
 
+/// Labels and Passes, to which the same is lent. Each is compared with the reference, and the
+/// library's Passes with its own Labels: it refuses and writes the same, and its number of
+/// passes is one that there can be.
 pub fn labels(
+    network: &OwnedNetwork,
+    closures: &[Closure],
+    asker: u32,
+    start: (u32, u32),
+    lengths: (usize, usize),
+) -> Result<Outcome, Difference> {
+    let question = |operation| {
+        let ((source, departure), (label_count, predecessor_count)) = (start, lengths);
+        format!(
+            "{operation} for {asker} from {source} at {departure}, buffers of {label_count} and \
+             {predecessor_count}"
+        )
+    };
+    let input = || shown_closed(network, closures);
+    let labels = agreed(&question("labels"), input, |operations| {
+        labelled(operations.labels, network, closures, asker, start, lengths)
+    })?;
+    let passes = agreed(&question("passes"), input, |operations| {
+        labelled(operations.passes, network, closures, asker, start, lengths)
+    })?;
+    let possible = match passes.reply {
+        Ok(number) => labels.reply.is_ok() && (1..=network.junctions).contains(&number),
+        Err(refusal) => labels.reply == Err(refusal),
+    };
+    if !possible || passes.buffers != labels.buffers {
+        return Err(Difference {
+            question: question("passes and labels"),
+            input: input(),
+            expected: format!("{labels:?}"),
+            found: format!("{passes:?}"),
+        });
+    }
+    Ok(Outcome::of(&labels.reply))
+}
+
+/// An answer with the labels and predecessors.
+pub(super) type Labelled<T> = Answer<Result<T, Refusal>, (Lent<u32>, Lent<u16>)>;
+
+/// The answer of Labels or of Passes.
+pub(super) fn labelled<T>(
+    operation: Labelling<T>,
     network: &OwnedNetwork,
     closures: &[Closure],
     asker: u32,
     (source, departure): (u32, u32),
     (label_count, predecessor_count): (usize, usize),
-) -> Result<Outcome, Difference> {
-    let question = format!(
-        "labels for {asker} from {source} at {departure}, buffers of {label_count} and \
-         {predecessor_count}"
+) -> Labelled<T> {
+    let mut labels = Lent::new(label_count);
+    let mut predecessors = Lent::new(predecessor_count);
+    let reply = operation(
+        &network.lent(),
+        closures,
+        asker,
+        source,
+        departure,
+        labels.part(),
+        predecessors.part(),
     );
-    let input = || shown_closed(network, closures);
-    let reply = compare(&question, input, |operations| {
-        let mut labels = Lent::new(label_count);
-        let mut predecessors = Lent::new(predecessor_count);
-        let reply = (operations.labels)(
-            &network.lent(),
-            closures,
-            asker,
-            source,
-            departure,
-            labels.part(),
-            predecessors.part(),
-        );
-        let entries = reply.map_or(0, |()| network.junctions as usize);
-        Answer {
-            reply,
-            kept: labels.kept_after(entries) && predecessors.kept_after(entries),
-            buffers: (labels, predecessors),
-        }
-    })?;
-    Ok(Outcome::of(&reply))
+    let entries = reply.as_ref().map_or(0, |_| network.junctions as usize);
+    Answer {
+        reply,
+        kept: labels.kept_after(entries) && predecessors.kept_after(entries),
+        buffers: (labels, predecessors),
+    }
 }
 
 pub fn route(

@@ -9,7 +9,7 @@ use crate::inputs::damage::{
 };
 use crate::inputs::networks::{
     LoneArc, interval_at, random_arc, random_arc_departure, random_departure, random_departures,
-    random_network,
+    random_network, random_path,
 };
 use crate::inputs::texts::{pad, question_line, random_town, random_town_of};
 use crate::inputs::{OwnedNetwork, Random};
@@ -36,7 +36,7 @@ pub const ARC_ARRIVAL: Check = Check {
 };
 
 pub const LABELS: Check = Check {
-    name: "labels",
+    name: "labels and passes",
     cases: 40_000,
     run: labels,
     finds_nothing: false,
@@ -167,8 +167,16 @@ fn arc_arrival(random: &mut Random) -> Result<Outcome, Difference> {
 }
 
 fn labels(random: &mut Random) -> Result<Outcome, Difference> {
-    let mut network = random_network(random);
+    let mut network = if random.one_in(8) {
+        random_path(random)
+    } else {
+        random_network(random)
+    };
     let start = random_start(random, &network);
+    if random.one_in(4) {
+        // So that there are many passes.
+        network = network.against_the_way(start.0 % network.junctions, start.1 % DAY);
+    }
     let (closures, asker) = random_closures_and_asker(random, &network, start);
     let junctions = network.junctions as usize;
     let mut buffers = (junctions, junctions);

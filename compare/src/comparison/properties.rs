@@ -7,6 +7,7 @@ mod holds;
 mod intervals;
 mod midnight;
 mod parties;
+mod passes;
 mod sheets;
 
 pub use closures::{
@@ -21,6 +22,7 @@ pub use holds::{ARC_HELD, HOLD_TABLE, HOLDS_AS_ARCS};
 pub use intervals::{INTERVALS_PASSED_ON, LABELS_BY_ARCS, LABELS_OF_PATHS, ONE_INTERVAL};
 pub use midnight::{DAY_LATER, LABELS_ROTATED};
 pub use parties::{OTHERS_CLOSURES, OWN_OR_BOTH, PARTIES_EXCHANGED};
+pub use passes::{PASSES_OF_PATHS, PASSES_RENUMBERED, PASSES_TWICE};
 pub use sheets::{SHEET_BY_LABELS, SHEET_SHUFFLED, SHEET_TWICE};
 
 use super::answers::{shown_arc, shown_closed};
@@ -32,6 +34,7 @@ use crate::inputs::networks::{
     random_network, random_towards, small_network,
 };
 use crate::inputs::{OwnedNetwork, Random};
+use crate::operations::Labelling;
 use crate::reference::limits::{DAY, LAST_TICK, NO_ARC, UNREACHED};
 use crate::reference::{Arrival, Closure, Refusal};
 
@@ -184,7 +187,8 @@ fn in_time(tick: u32) -> Option<u32> {
     (tick <= LAST_TICK).then_some(tick)
 }
 
-/// Labels, predecessors and routes against every walk of a small network.
+/// Labels, predecessors and routes against every walk of a small network, and the passes
+/// that find the labels arc by arc.
 fn labels_by_walks(random: &mut Random) -> Result<Outcome, Difference> {
     let network = small_network(random);
     let source = random.below(network.junctions);
@@ -193,15 +197,20 @@ fn labels_by_walks(random: &mut Random) -> Result<Outcome, Difference> {
     let asker = random_asker(random);
     let stopping = stopping(&closures, asker);
     let walks = Walks::all(&network, &stopping, source, departure);
-    let expected = (&walks.labels, &walks.predecessors(), &walks.routes());
-    let (labels, predecessors) = cabinet_labels(&network, &closures, asker, source, departure);
+    let tables = (walks.labels.clone(), walks.predecessors());
+    let passes = (walks.passes(departure), tables.clone());
+    let expected = (tables, walks.routes(), passes);
     let routes = (0..network.junctions)
         .map(|to| cabinet_route(&network, &closures, asker, (source, departure), to))
         .collect();
-    let found = (&labels, &predecessors, &routes);
+    let found = (
+        cabinet_labels(&network, &closures, asker, source, departure),
+        routes,
+        cabinet_passes(&network, &closures, asker, source, departure),
+    );
     if found != expected {
         return Err(Difference {
-            question: format!("labels and routes for {asker} from {source} at {departure}"),
+            question: format!("labels, routes and passes for {asker} from {source} at {departure}"),
             input: shown_closed(&network, &closures),
             expected: format!("{expected:?}"),
             found: format!("{found:?}"),
@@ -223,10 +232,34 @@ fn cabinet_labels(
     source: u32,
     departure: u32,
 ) -> (Vec<u32>, Vec<u16>) {
+    let start = (source, departure);
+    let ((), tables) = cabinet_tables(cabinet::labels, network, closures, asker, start);
+    tables
+}
+
+/// The number of passes, with the labels and predecessors.
+fn cabinet_passes(
+    network: &OwnedNetwork,
+    closures: &[Closure],
+    asker: u32,
+    source: u32,
+    departure: u32,
+) -> (u32, (Vec<u32>, Vec<u16>)) {
+    let start = (source, departure);
+    cabinet_tables(cabinet::passes, network, closures, asker, start)
+}
+
+fn cabinet_tables<T>(
+    operation: Labelling<T>,
+    network: &OwnedNetwork,
+    closures: &[Closure],
+    asker: u32,
+    (source, departure): (u32, u32),
+) -> (T, (Vec<u32>, Vec<u16>)) {
     let junctions = network.junctions as usize;
     let mut labels = vec![0; junctions];
     let mut predecessors = vec![0; junctions];
-    let reply = cabinet::labels(
+    let reply = operation(
         &network.lent(),
         closures,
         asker,
@@ -235,8 +268,7 @@ fn cabinet_labels(
         &mut labels,
         &mut predecessors,
     );
-    reply.expect("a good network");
-    (labels, predecessors)
+    (reply.expect("a good network"), (labels, predecessors))
 }
 
 /// The route, or `None` if the destination is unreached.
@@ -262,16 +294,17 @@ fn cabinet_route(
     Some(arcs)
 }
 
-/// What Labels, Route and Sheet say to an unknown source, with all after it wrong too.
+/// What Labels, Passes, Route and Sheet say to an unknown source, with all after it wrong too.
 fn refused_by_the_source(
     network: &OwnedNetwork,
     closures: &[Closure],
     asker: u32,
-) -> [Result<(), Refusal>; 3] {
+) -> [Result<(), Refusal>; 4] {
     let network = &network.lent();
     let unknown = network.junctions;
     [
         cabinet::labels(network, closures, asker, unknown, DAY, &mut [], &mut []),
+        cabinet::passes(network, closures, asker, unknown, DAY, &mut [], &mut []).map(drop),
         cabinet::route(network, closures, asker, unknown, DAY, unknown, &mut []).map(drop),
         cabinet::sheet(network, closures, asker, unknown, &[], &mut [], &mut []),
     ]
@@ -353,6 +386,26 @@ impl<'a> Walks<'a> {
                 .find(attains)
                 .expect("an arc attains it")
         })
+    }
+
+    /// Lowers labels arc by arc as long as a pass changes one, and counts the passes.
+    fn passes(&self, departure: u32) -> u32 {
+        let mut labels = vec![UNREACHED; self.labels.len()];
+        labels[self.source] = departure;
+        let mut number = 0;
+        loop {
+            number += 1;
+            let before = labels.clone();
+            for arc in 0..self.network.arcs() {
+                let tick = labels[self.tail(arc)];
+                let arrival = (tick != UNREACHED).then(|| self.drive(arc, tick)).flatten();
+                let label = &mut labels[self.head(arc)];
+                *label = arrival.unwrap_or(UNREACHED).min(*label);
+            }
+            if labels == before {
+                return number;
+            }
+        }
     }
 
     fn predecessors(&self) -> Vec<u16> {

@@ -202,6 +202,18 @@ pub fn random_same_ticks(random: &mut Random, closures: &[Closure]) -> Vec<Closu
     same
 }
 
+/// The records for arcs that are renumbered in this order, each for every arc that it is now.
+pub fn renumbered(closures: &[Closure], order: &[usize]) -> Vec<Closure> {
+    let mut moved = Vec::new();
+    for closure in closures {
+        let now = (0..)
+            .zip(order)
+            .filter(|&(_, &arc)| arc == closure.arc as usize);
+        moved.extend(now.map(|(arc, _)| Closure { arc, ..*closure }));
+    }
+    moved
+}
+
 /// Records that close all these ticks and more, or to both parties.
 pub fn random_more_ticks(random: &mut Random, closures: &[Closure]) -> Vec<Closure> {
     let mut more = closures.to_vec();
@@ -246,6 +258,16 @@ mod tests {
         let stops = |one: &Closure| one.party == 0 || one.party == asker;
         let closed = |one: &Closure| one.arc == arc && one.first <= tick && tick < one.end;
         closures.iter().any(|one| stops(one) && closed(one))
+    }
+
+    #[test]
+    fn moves_along_with_arcs() {
+        let closures = [between(1, 5, 9), between(0, 7, 8), between(2, 0, 1)];
+        let moved = renumbered(&closures, &[1, 0, 1]);
+        assert_eq!(
+            moved,
+            [between(0, 5, 9), between(2, 5, 9), between(1, 7, 8)]
+        );
     }
 
     #[test]

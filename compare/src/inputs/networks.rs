@@ -111,6 +111,38 @@ impl OwnedNetwork {
         }
     }
 
+    /// The same streets with other numbers: each arc in this order is now the next. One that
+    /// stands in it twice is there twice.
+    pub fn renumbered(&self, order: &[usize]) -> Self {
+        let network = self.lent();
+        let speeds = order.iter().flat_map(|&arc| network.arc_speeds(arc));
+        Self {
+            junctions: self.junctions,
+            fences: self.fences.clone(),
+            tails: order.iter().map(|&arc| self.tails[arc]).collect(),
+            heads: order.iter().map(|&arc| self.heads[arc]).collect(),
+            lengths: order.iter().map(|&arc| self.lengths[arc]).collect(),
+            holds: order.iter().map(|&arc| self.holds[arc]).collect(),
+            speeds: speeds.copied().collect(),
+        }
+    }
+
+    /// All arcs in the order in which they are left, if the junctions have these labels.
+    pub fn arcs_as_left(&self, labels: &[u32]) -> Vec<usize> {
+        let mut order: Vec<usize> = (0..self.arcs()).collect();
+        order.sort_by_key(|&arc| labels[usize::from(self.tails[arc])]);
+        order
+    }
+
+    /// The same streets, the arcs numbered from the one that is left last without closures to
+    /// the one that is left first.
+    pub fn against_the_way(&self, source: u32, departure: u32) -> Self {
+        let (labels, _) = self.open_labels(source, departure);
+        let mut order = self.arcs_as_left(&labels);
+        order.reverse();
+        self.renumbered(&order)
+    }
+
     /// Gives every arc a hold up to the largest.
     pub(super) fn hold_up_to(&mut self, random: &mut Random, largest: u16) {
         self.holds.fill_with(|| random_hold(random, largest));
@@ -479,6 +511,30 @@ mod tests {
         assert_eq!(plan.fences, [0, 60, 100, 110, 863_999]);
         assert_eq!(plan.speeds, [36, 36, 18, 18, 0, 40, 0, 0, 20, 20]);
         assert_eq!(network.closed_daily(&[]), network);
+    }
+
+    #[test]
+    fn renumbers_arcs() {
+        let network = OwnedNetwork {
+            tails: vec![1, 0],
+            heads: vec![2, 1],
+            ..two_arcs()
+        };
+        let expected = OwnedNetwork {
+            tails: vec![0, 1, 0],
+            heads: vec![1, 2, 1],
+            lengths: vec![100, 50, 100],
+            holds: vec![5, 0, 5],
+            speeds: vec![40, 20, 36, 18, 40, 20],
+            ..two_arcs()
+        };
+        assert_eq!(network.renumbered(&[1, 0, 1]), expected);
+        assert_eq!(network.arcs_as_left(&[9, 7, UNREACHED]), [0, 1]);
+        assert_eq!(network.arcs_as_left(&[7, 9, UNREACHED]), [1, 0]);
+        // The arc out of the source, then the one that is left later, and the other way round.
+        assert_eq!(network.against_the_way(0, 0), network);
+        let with_the_way = network.renumbered(&[1, 0]);
+        assert_eq!(with_the_way.against_the_way(0, 0), network);
     }
 
     #[test]

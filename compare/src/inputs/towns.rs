@@ -82,6 +82,12 @@ impl Town {
         self.with_file(Form::New, MAX_TEXT)
     }
 
+    /// The same streets, the arcs numbered against the way of the question.
+    pub fn against_the_way(mut self) -> Self {
+        self.network = self.network.against_the_way(SOURCE, DEPARTURE);
+        self.with_file(Form::Old, MAX_TEXT)
+    }
+
     /// With a file to be converted to this form; the longer one of the two is as long as
     /// the town's file may be.
     pub fn to_convert(self, to: Form) -> Self {

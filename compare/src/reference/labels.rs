@@ -18,9 +18,7 @@ pub fn labels(
 ) -> Result<(), Refusal> {
     check_with_closures(network, closures, asker)?;
     check_start(network.junctions, source, departure)?;
-    let junctions = network.junctions as usize;
-    let exact = labels.len() == junctions && predecessors.len() == junctions;
-    Refusal::BUFFER_LENGTHS.unless(exact)?;
+    check_buffers(network.junctions, labels, predecessors)?;
     let closed = ClosedArcs::new(network.tails.len(), closures, asker);
     Search::new(network, closed).run(source, departure, labels, predecessors);
     Ok(())
@@ -49,6 +47,42 @@ pub(super) fn check_departure(departure: u32) -> Result<(), Refusal> {
     Refusal::DEPARTURE.unless(departure < DAY)
 }
 
+pub(super) fn check_buffers(
+    junctions: u32,
+    labels: &[u32],
+    predecessors: &[u16],
+) -> Result<(), Refusal> {
+    let junctions = junctions as usize;
+    let exact = labels.len() == junctions && predecessors.len() == junctions;
+    Refusal::BUFFER_LENGTHS.unless(exact)
+}
+
+/// Nobody has left yet: the source alone is reached.
+pub(super) fn reach_source(
+    source: u32,
+    departure: u32,
+    labels: &mut [u32],
+    predecessors: &mut [u16],
+) {
+    labels.fill(UNREACHED);
+    predecessors.fill(NO_ARC);
+    labels[source as usize] = departure;
+}
+
+/// Lowers the label of an arc's head to the arc's arrival and says whether it was later. The
+/// lowest arc that attains a label is kept as the predecessor.
+#[inline]
+pub(super) fn lower(label: &mut u32, predecessor: &mut u16, tick: u32, arc: usize) -> bool {
+    let lowered = tick < *label;
+    if lowered {
+        *label = tick;
+        *predecessor = arc as u16;
+    } else if tick == *label {
+        *predecessor = (*predecessor).min(arc as u16);
+    }
+    lowered
+}
+
 /// A checked network with what is closed in it, ready to be labelled from any source at any
 /// departure.
 pub(super) struct Search<'n> {
@@ -70,9 +104,7 @@ impl<'n> Search<'n> {
     /// their labels.
     pub fn run(&self, source: u32, departure: u32, labels: &mut [u32], predecessors: &mut [u16]) {
         let network = &self.network;
-        labels.fill(UNREACHED);
-        predecessors.fill(NO_ARC);
-        labels[source as usize] = departure;
+        reach_source(source, departure, labels, predecessors);
         // An entry is a label, its junction, and the label's interval, with which the
         // junction is left. Only the departure's is looked up.
         let interval = interval_at(departure, network.fences) as u16;
@@ -98,13 +130,9 @@ impl<'n> Search<'n> {
                 let Some(arrival) = drive else {
                     continue;
                 };
-                if arrival.tick < *label {
-                    *label = arrival.tick;
-                    *predecessor = arc as u16;
+                // All arcs that attain the label pass here before it is settled.
+                if lower(label, predecessor, arrival.tick, arc) {
                     queue.push(Reverse((arrival.tick, head, arrival.interval as u16)));
-                } else if arrival.tick == *label {
-                    // All arcs that attain the label pass here before it is settled.
-                    *predecessor = (*predecessor).min(arc as u16);
                 }
             }
         }
@@ -146,6 +174,7 @@ impl ArcsOut {
 #[cfg(test)]
 mod tests {
     use super::super::limits::{BOTH_PARTIES, BRIGADE, DEPOT};
+    use super::super::passes;
     use super::*;
     use crate::inputs::examples::TOWN;
 
@@ -437,16 +466,27 @@ mod tests {
         ] {
             let mut ticks = vec![7; lengths.0];
             let mut predecessors = vec![7; lengths.1];
+            let (ticks, predecessors) = (&mut ticks[..], &mut predecessors[..]);
             let reply = labels(
                 network,
                 closures,
                 asker,
                 source,
                 departure,
-                &mut ticks,
-                &mut predecessors,
+                ticks,
+                predecessors,
             );
-            assert_eq!(reply.unwrap_err().0, number);
+            assert_eq!(reply, Err(Refusal(number)));
+            let reply = passes(
+                network,
+                closures,
+                asker,
+                source,
+                departure,
+                ticks,
+                predecessors,
+            );
+            assert_eq!(reply, Err(Refusal(number)));
             assert!(ticks.iter().all(|&tick| tick == 7));
             assert!(predecessors.iter().all(|&arc| arc == 7));
         }

@@ -508,7 +508,7 @@ fn rows_of_a_sheet() {
     assert_answered([sheet]);
 }
 
-/// The numbers of Labels, Route and Sheet for a network with ten junctions.
+/// The numbers of Labels and Passes, Route and Sheet for a network with ten junctions.
 fn numbers(network: &OwnedNetwork, closures: &[Closure]) -> [u32; 3] {
     numbers_for(ASKER, network, closures)
 }

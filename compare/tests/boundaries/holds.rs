@@ -14,8 +14,8 @@ use super::{
     number, sheet_number, small_town,
 };
 
-/// The numbers of Network check, Labels, Route and Sheet for the small town with some of
-/// its tables changed.
+/// The numbers of Network check, Labels and Passes, Route and Sheet for the small town with
+/// some of its tables changed.
 fn numbers(network: &OwnedNetwork) -> [u32; 4] {
     let start = (0, DEPARTURE);
     [

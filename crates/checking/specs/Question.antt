@@ -1,4 +1,4 @@
--- "1 to 8; 9, source not below the junction count; 10, departure 864,000 or above": what Labels and Route ask first. By document 02, order 5, 32
+-- "1 to 8; 9, source not below the junction count; 10, departure 864,000 or above": what Labels, Passes and Route ask first. By document 02, order 5, 32
 -- stands directly after 8, with the network's own; by orders 7 and 8, 36 to 39 stand after these and before 9.
 use Prim.Native.Nat.{ℕ, _<_}
 use mathlib.Core.Bool.{not}

@@ -1,4 +1,4 @@
-// The rules that Labels and Route ask first: the network's own, its closures' and the asker's, and those on the source and the departure.
+// The rules that Labels, Passes and Route ask first: the network's own, its closures' and the asker's, and those on the source and the departure.
 ghost use mathlib.Core.Path.{_≡_};
 ghost use Rattle.model.specs.Lent.{lentNetwork, lentClosures};
 ghost use Rattle.checking.specs.NetworkCheck.{outcomeOf};

@@ -3,7 +3,6 @@ pub mod KeptIntervals
 pub mod Labelable
 pub mod Linking
 pub mod Links
-pub mod Marks
 pub mod NoneDriven
 pub mod Offered
 pub mod Queue

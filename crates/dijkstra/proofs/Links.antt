@@ -1,22 +1,20 @@
 -- The offers of a junction's arcs along the links. Between two of them (`Onward`) the tables are as long as at the start, the matches are
 -- played, and what the arcs from a on leave is what all of them leave.
-use Prim.Native.Nat.{ℕ, _+_, _-_, _*_, _%_, _≤_, _<_}
+use Prim.Native.Nat.{ℕ, _-_, _%_, _<_}
 use mathlib.Core.Path.{_≡_, refl, _∙_}
 use mathlib.Core.Bool.{Bool, true, false}
 use mathlib.Core.List.{List}
 use mathlib.Core.Logic.{by-cases}
 use native.Mathlib.Decide.{ℕ-discrete}
-use native.Mathlib.Nat.{mul-le-mul-right, suc-mul}
 use native.Mathlib.Omega.{arith}
 use lib.ListN.{length, getD}
 use Rattle.model.specs.Labels.{noArc}
 use Rattle.model.specs.Network.{Roads}
+use Rattle.closed_arcs.specs.Arcs.{HasArc}
+use Rattle.closed_arcs.proofs.Arcs.{arc-inside}
 use Rattle.tournament.specs.Tournament.{Tournament}
-use Rattle.dijkstra.specs.code.Offering.{Tables, tables, HasArc, Offerable, ArcOffered, Drivable, AllOffered, skips, offers}
+use Rattle.dijkstra.specs.code.Offering.{Tables, tables, Offerable, ArcOffered, Drivable, AllOffered, skips, offers}
 use Rattle.dijkstra.proofs.Offered.{labels-stay, predecessors-stay, tournament-stays}
-
-pub arc-inside : (a n m : ℕ) → a < m → a * n + n ≤ m * n
-arc-inside a n m h = omega (arith, mul-le-mul-right n h, suc-mul a n)
 
 pub record Onward (R : Roads) (heads next : List ℕ) (first : ℕ) (before : Tables) (settled : List Bool) (tick interval a : ℕ) (now : Tables) : Type 0 where
   pub arc-is : (a ≡ noArc → ⊥) → a < length heads

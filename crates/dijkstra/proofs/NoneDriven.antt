@@ -17,7 +17,8 @@ use Rattle.model.proofs.Holds.{with-hold-is-later}
 use Rattle.model.proofs.Networks.{drive-by-last}
 use Rattle.model.proofs.WithInterval.{told-none}
 use Rattle.driving.proofs.Driving.{kept-inside}
-use Rattle.dijkstra.specs.code.Offering.{Tables, ArrivesOn, Drivable, AllOffered, none-left, skips, offers, missed}
+use Rattle.closed_arcs.specs.Arcs.{ArrivesOn}
+use Rattle.dijkstra.specs.code.Offering.{Tables, Drivable, AllOffered, none-left, skips, offers, missed}
 
 -- Driving takes time, and is done by the last tick or never.
 never-from-last-on : (R : Roads) (a tick : ℕ) → 1 ≤ getD (R .lengths) a 0 → last ≤ tick → tick ≤ last → driveOf R a tick ≡ never

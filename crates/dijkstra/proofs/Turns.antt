@@ -9,25 +9,25 @@ use mathlib.Core.Option.{Option}
 use native.Mathlib.Decide.{decLt, ℕ-discrete}
 use native.Mathlib.Omega.{arith}
 use lib.Dec.{ltb, eqb}
-use lib.ListN.{length, getD, set, replicate, length-take, length-drop}
+use lib.ListN.{length, getD, set, replicate}
 use lib.Seq.{getD-set-same, getD-set-other}
 use Rattle.model.specs.Ticks.{last, never}
 use Rattle.model.specs.Intervals.{intervalOf, tickAndInterval?}
-use Rattle.model.specs.Network.{Network, Accepted, arcs, intervals, roadsOf, speedsOf, driveOf, netOf}
+use Rattle.model.specs.Network.{Network, Accepted, arcs, roadsOf, driveOf, netOf}
 use Rattle.model.specs.Labels.{noArc, labelsOf, predecessorsOf}
 use Rattle.model.proofs.WithInterval.{arrived-at, arrived-never}
 use Rattle.model.proofs.Entries.{getD-inside, getD-all}
 use Rattle.model.proofs.Networks.{accepted-sound, drive-by-last}
 use Rattle.model.proofs.Tests.{ltb-cases, eqb-cases}
 use Rattle.checking.specs.Question.{Taken}
-use Rattle.driving.specs.ArcKept.{ArcKept}
+use Rattle.closed_arcs.specs.Arcs.{ArrivesOn}
+use Rattle.closed_arcs.proofs.Arcs.{arc-kept}
 use Rattle.tournament.specs.Tournament.{Least}
 use Rattle.dijkstra.specs.code.Linked.{arcFrom, Linked}
-use Rattle.dijkstra.specs.code.Offering.{Tables, tables, lowered, taken, ArrivesOn, Leaves, ArcOffered, AllOffered, none-left, skips, offers}
+use Rattle.dijkstra.specs.code.Offering.{Tables, tables, lowered, taken, Leaves, ArcOffered, AllOffered, none-left, skips, offers}
 use Rattle.dijkstra.specs.code.Rounds.{IntervalsKept}
 use Rattle.dijkstra.proofs.KeptIntervals.{kept-first, kept-by, kept-offered}
 use Rattle.dijkstra.proofs.Linking.{arc-from, arc-from-least}
-use Rattle.dijkstra.proofs.Links.{arc-inside}
 use Rattle.dijkstra.proofs.Queue.{Queued, Waits, Nearest, ByLast, none-waits}
 use Rattle.dijkstra.proofs.Settling.{
   Settling,
@@ -43,22 +43,6 @@ use Rattle.dijkstra.proofs.Settling.{
   offer-ties,
   settling-ends,
 }
-
--- ---- The arc that an offer drives
-
-arc-kept : (N : Network) → Accepted N → (tick interval a : ℕ) → tick ≤ last → interval ≡ intervalOf (N .fences) tick → a < arcs N →
-    ArcKept tick interval (getD (N .lengths) a 0) (N .fences) (speedsOf N a)
-arc-kept N accepted tick interval a in-time in-interval is-arc =
-    let inside = arc-inside a (intervals N) (arcs N) is-arc in
-    let as-many : length (speedsOf N a) ≡ intervals N = simp (length-take, length-drop) (omega (arith, accepted .speeds-long)) in
-    record {
-      in-time = in-time;
-      in-interval = in-interval;
-      some-length = accepted .some-length a is-arc;
-      some-interval = accepted .some-interval;
-      fences-kept = accepted .fences-kept;
-      as-many = as-many;
-    }
 
 -- ---- The outer loop
 

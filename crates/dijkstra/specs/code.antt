@@ -1,4 +1,3 @@
 pub mod Linked
-pub mod Marks
 pub mod Offering
 pub mod Rounds

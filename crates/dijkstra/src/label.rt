@@ -1,15 +1,16 @@
 // The labelling of documents 000 and 004 (Dijkstra's): settle the nearest junction that is not settled yet, and drive its arcs.
 ghost use mathlib.Core.Path.{_≡_};
-ghost use lib.ListN.{length, replicate};
-ghost use Rattle.model.specs.Ticks.{never};
-ghost use Rattle.model.specs.Labels.{noArc, labelsOf, predecessorsOf};
+ghost use lib.ListN.{length};
+ghost use Rattle.model.specs.Labels.{labelsOf, predecessorsOf};
 ghost use Rattle.model.specs.Network.{netOf};
 ghost use Rattle.model.specs.Lent.{lentNetwork, lentClosures, networkIn, closuresIn};
 ghost use Rattle.dijkstra.specs.Labelable.{Labelable, LabelsLeft, PredecessorsLeft};
 ghost use Rattle.index_bounds.specs.Fitting.{Fits};
-use crate::closed::mark_closed;
+use crate::clear::clear_labels;
+use crate::clear::clear_predecessors;
 use crate::link::link_arcs;
 use crate::settle::settle;
+use closed_arcs::mark::mark_closed;
 use driving::interval::interval_of;
 use index_bounds::fit::fits;
 use model::label::NO_ARC;
@@ -21,20 +22,6 @@ use tournament::tree::enter;
 use tournament::tree::junction_of;
 use tournament::tree::key_of;
 use tournament::tree::least_key;
-
-// Marks every junction as unreached.
-fn clear(labels: &mut [u32], predecessors: &mut [u16])
-    requires { ⌜ length (now predecessors) ≡ length (now labels) ⌝ }
-    ensures labels { λ _. ⌜ now (labels .exit) ≡ replicate (length (now (labels .entry))) never ⌝ }
-    ensures predecessors { λ _. ⌜ now (predecessors .exit) ≡ replicate (length (now (labels .entry))) noArc ⌝ }
-{
-    let mut j = 0;
-    while j < labels.len() {
-        labels[j] = UNREACHED;
-        predecessors[j] = NO_ARC;
-        j += 1;
-    }
-}
 
 // Labels tables that lie within the limits.
 fn label_all(
@@ -59,7 +46,8 @@ fn label_all(
         source departure (now (labels .entry)) (now (predecessors .entry)) →
         now (predecessors .exit) ≡ predecessorsOf (netOf (lentNetwork junctions fences tails heads lengths holds speeds (lentClosures closures))) source departure) ⌝ }
 {
-    clear(labels, predecessors);
+    clear_labels(labels);
+    clear_predecessors(predecessors);
     labels[source] = departure;
     let mut first = [NO_ARC; MAX_JUNCTIONS];
     let mut next = [NO_ARC; MAX_ARCS];

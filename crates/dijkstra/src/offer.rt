@@ -1,7 +1,8 @@
 // The offers of a settled junction's arcs: each arc's arrival may lower its head's label.
 ghost use Rattle.model.specs.Lent.{lentRoads, lentClosures, roadsIn, closuresIn};
-ghost use Rattle.dijkstra.specs.code.Marks.{Marked};
-ghost use Rattle.dijkstra.specs.code.Offering.{tables, HasArc, ArrivesOn, Offerable, Leaves, ArcOffered, Drivable, AllOffered};
+ghost use Rattle.closed_arcs.specs.Arcs.{HasArc, ArrivesOn};
+ghost use Rattle.closed_arcs.specs.Marks.{Marked};
+ghost use Rattle.dijkstra.specs.code.Offering.{tables, Offerable, Leaves, ArcOffered, Drivable, AllOffered};
 ghost use Rattle.driving.specs.InPlan.{InPlan};
 ghost use Rattle.model.specs.Ticks.{arrivedAt};
 use driving::closed::drive_closed_with_hold;
@@ -47,7 +48,7 @@ fn offer(
     }
 }
 
-// Drives an arc from a tick on: with the list at hand where a closure names it, and else by its plan alone.
+// Drives an arc from a tick on, with what the tables have of it.
 fn drive_arc(
     arc: usize,
     tick: u32,

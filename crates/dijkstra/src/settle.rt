@@ -1,6 +1,6 @@
 // A round of the labelling.
 ghost use Rattle.model.specs.Lent.{lentRoads, lentClosures, roadsIn, closuresIn};
-ghost use Rattle.dijkstra.specs.code.Marks.{Marked};
+ghost use Rattle.closed_arcs.specs.Marks.{Marked};
 ghost use Rattle.dijkstra.specs.code.Offering.{tables};
 ghost use Rattle.dijkstra.specs.code.Rounds.{Settleable, Settles};
 use crate::offer::offer_arcs;

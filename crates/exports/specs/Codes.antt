@@ -18,7 +18,7 @@ arrivalCode (refused number) = 2 ^ 63 + number
 arrivalCode (replied (some (tick, interval))) = tick + interval * 2 ^ 32
 arrivalCode (replied none) = 2 ^ 62
 
--- Route: the refusal's code, or the number of arcs.
+-- Route and Passes: the refusal's code, or the number of arcs or of passes.
 abbrev pub countCode : Outcome ℕ → ℕ
 countCode (refused number) = refusalBase + number
 countCode (replied count) = count

@@ -3,5 +3,6 @@
 // the cabinet's own function for C, stands in the crate `cabinet`.
 mod bit;
 pub mod network;
+pub mod passes;
 pub mod question;
 pub mod text;

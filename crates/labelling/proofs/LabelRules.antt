@@ -29,15 +29,15 @@ module _ (N : Network) (asker source departure : ℕ) (labels predecessors : Lis
   Ends outcome labels′ predecessors′ = (outcome ≡ answer)
       × ((labels′ ≡ labelsAfter N asker source departure labels predecessors) × (predecessors′ ≡ predecessorsAfter N asker source departure labels predecessors))
 
-  ends-refused : {number : ℕ} → refused number ≡ answer → Ends (refused number) labels predecessors
+  pub ends-refused : {number : ℕ} → refused number ≡ answer → Ends (refused number) labels predecessors
   ends-refused e = (e, (rw (← e), rw (← e)))
 
   abbrev buffers : List Rule
   buffers = bufferRules N labels predecessors
 
-  pub question-refuses : (number : ℕ) → refused number ≡ questionCheck N asker source departure → Ends (refused number) labels predecessors
+  pub question-refuses : (number : ℕ) → refused number ≡ questionCheck N asker source departure → refused number ≡ answer
   unfolding labelsAnswer questionCheck
-  question-refuses number e = ends-refused (sym (refused-before (questionRules N asker source departure) buffers tt tt number (sym e)))
+  question-refuses number e = sym (refused-before (questionRules N asker source departure) buffers tt tt number (sym e))
 
   -- Where the question is taken, the rule on the buffers decides.
   module _ (taken : AllKept (questionRules N asker source departure)) where
@@ -45,8 +45,8 @@ module _ (N : Network) (asker source departure : ℕ) (labels predecessors : Lis
     unfolding labelsAnswer
     rest-decides = kept-before (questionRules N asker source departure) buffers tt taken
 
-    pub buffers-refuse : not (eqb (length labels) (N .junctions) && eqb (length predecessors) (N .junctions)) ≡ true → Ends (refused 11) labels predecessors
-    buffers-refuse broken = ends-refused (refused-at buffers tt 0 tt broken ∙ sym rest-decides)
+    pub buffers-refuse : not (eqb (length labels) (N .junctions) && eqb (length predecessors) (N .junctions)) ≡ true → refused 11 ≡ answer
+    buffers-refuse broken = refused-at buffers tt 0 tt broken ∙ sym rest-decides
 
     pub replies : AllKept buffers → answer ≡ replied tt
     replies kept = rest-decides ∙ kept-replies buffers tt kept
@@ -75,13 +75,13 @@ module _ (N : Network) (asker source departure : ℕ) (labels predecessors : Lis
       let kept = kept-append (questionRules N asker source departure) buffers (replies-kept (questionRules N asker source departure ++ buffers) tt tt e) in
       (kept-taken N asker source departure (kept .0) .0, kept-labelable (kept .0) (kept .1))
 
-  ends-written : {labels′ predecessors′ : List ℕ} → answer ≡ replied tt →
+  pub ends-written : {labels′ predecessors′ : List ℕ} → answer ≡ replied tt →
       labels′ ≡ labelsOf (netOf (networkFor N asker)) source departure → predecessors′ ≡ predecessorsOf (netOf (networkFor N asker)) source departure →
       Ends (replied tt) labels′ predecessors′
   ends-written e l p = (sym e, (rw e l, rw e p))
 
   -- What can be labelled can be on the network as the asker finds it.
-  labelable-for : Labelable N source departure labels predecessors → Labelable (networkFor N asker) source departure labels predecessors
+  pub labelable-for : Labelable N source departure labels predecessors → Labelable (networkFor N asker) source departure labels predecessors
   labelable-for q = record { taken = taken-for asker (q .taken); labels-long = q .labels-long; predecessors-long = q .predecessors-long }
 
   -- The labelling, lent the records that stop the asker, has written both tables.

@@ -2,8 +2,8 @@
 ghost use mathlib.Core.Path.{_≡_};
 ghost use Rattle.model.specs.Lent.{lentNetwork, lentClosures};
 ghost use Rattle.labelling.specs.Labels.{outcomeOf, labelsAnswer, labelsAfter, predecessorsAfter};
+use crate::check::labels_check;
 use checking::network::NetworkCheck;
-use checking::question::question_check;
 use closures::stopping::put_stopping;
 use dijkstra::label::label_from;
 use model::closure::MAX_CLOSURES;
@@ -41,7 +41,7 @@ pub fn labels(
         asker source (departure .number) (now (labels .entry)) (now (predecessors .entry)) ⌝ }
 {
     let tick = departure.number;
-    if let NetworkCheck::Refused(refusal) = question_check(
+    if let NetworkCheck::Refused(refusal) = labels_check(
         junctions,
         fences,
         tails,
@@ -53,14 +53,10 @@ pub fn labels(
         asker,
         source,
         tick,
+        labels,
+        predecessors,
     ) {
         return Labelled::Refused(refusal);
-    }
-    if labels.len() != junctions as usize {
-        return Labelled::Refused(Refusal::BufferLength);
-    }
-    if predecessors.len() != junctions as usize {
-        return Labelled::Refused(Refusal::BufferLength);
     }
     let mut stopping = [[0u32; 4]; MAX_CLOSURES];
     let stopping_count = put_stopping(asker, closures, &mut stopping);

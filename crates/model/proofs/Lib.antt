@@ -1,4 +1,5 @@
 pub mod Arrival
+pub mod Beside
 pub mod ByLast
 pub mod Certificate
 pub mod Closures
@@ -15,6 +16,7 @@ pub mod NetworkRules
 pub mod Networks
 pub mod OnlyTables
 pub mod Parties
+pub mod Passes
 pub mod Passed
 pub mod Pieces
 pub mod Predecessors

@@ -33,7 +33,7 @@ abbrev pub offered : Net → List ℕ → ℕ → ℕ
 offered N old a = N .drive a (getD old (N .tail a) never)
 
 module _ (N : Net) (old : List ℕ) where
-  offer-length : (a : ℕ) (new : List ℕ) → length (offer N old a new) ≡ length new
+  pub offer-length : (a : ℕ) (new : List ℕ) → length (offer N old a new) ≡ length new
   unfolding offer
   offer-length a new = length-set new (N .head a) (min (getD new (N .head a) never) (offered N old a))
 
@@ -43,13 +43,13 @@ module _ (N : Net) (old : List ℕ) where
   offers-length (suc a) = offer-length a (offers N old a) ∙ offers-length a
 
   -- An entry stays, or it is the head's and becomes the offer, which is no more.
-  abbrev Stays : ℕ → List ℕ → ℕ → Type 0
+  abbrev pub Stays : ℕ → List ℕ → ℕ → Type 0
   Stays a new j = getD (offer N old a new) j never ≡ getD new j never
 
-  abbrev Lowered : ℕ → List ℕ → ℕ → Type 0
+  abbrev pub Lowered : ℕ → List ℕ → ℕ → Type 0
   Lowered a new j = (j ≡ N .head a) × (getD (offer N old a new) j never ≡ offered N old a) × (offered N old a ≤ getD new j never)
 
-  offer-entry : (a : ℕ) (new : List ℕ) (j : ℕ) → Stays a new j ⊎ Lowered a new j
+  pub offer-entry : (a : ℕ) (new : List ℕ) (j : ℕ) → Stays a new j ⊎ Lowered a new j
   unfolding offer
   offer-entry a new j = go (decLe (offered N old a) (getD new (N .head a) never)) (getD-set new (N .head a) j lower never)
     where
@@ -62,12 +62,12 @@ module _ (N : Net) (old : List ℕ) where
       go (yes sooner) (inr (e, stored)) = inr (e, stored ∙ min-eq-right sooner, rw e sooner)
       go (no later) (inr (e, stored)) = inl (stored ∙ min-eq-left (omega arith) ∙ ap (λ (i : ℕ). getD new i never) (sym e))
 
-  offer-at-most : (a : ℕ) (new : List ℕ) → N .head a < length new → getD (offer N old a new) (N .head a) never ≤ offered N old a
+  pub offer-at-most : (a : ℕ) (new : List ℕ) → N .head a < length new → getD (offer N old a new) (N .head a) never ≤ offered N old a
   unfolding offer
   offer-at-most a new inside =
       omega (arith, getD-set-same new (N .head a) (min (getD new (N .head a) never) (offered N old a)) never inside)
 
-  offer-no-rise : (a : ℕ) (new : List ℕ) (j : ℕ) → getD (offer N old a new) j never ≤ getD new j never
+  pub offer-no-rise : (a : ℕ) (new : List ℕ) (j : ℕ) → getD (offer N old a new) j never ≤ getD new j never
   offer-no-rise a new j = ⊎-elim (λ stays. omega arith) (λ lowered. omega arith) (offer-entry a new j)
 
   offers-no-rise : (k j : ℕ) → getD (offers N old k) j never ≤ getD old j never
@@ -124,10 +124,10 @@ module _ (N : Net) (sound : Sound N) (source departure : ℕ) where
       omega (arith, within-next k a is-arc, sound .monotone a (getD (within N source departure k) (N .tail a) never) t is-arc sooner)
 
   -- Each entry other than never is the arrival of a walk.
-  abbrev Attained : List ℕ → Type 0
+  abbrev pub Attained : List ℕ → Type 0
   Attained labels = (j : ℕ) → (getD labels j never ≡ never → ⊥) → Arrives N source departure j (getD labels j never)
 
-  offer-attained : (old : List ℕ) → Attained old → (a : ℕ) → a < N .arcs → (new : List ℕ) → Attained new → Attained (offer N old a new)
+  pub offer-attained : (old : List ℕ) → Attained old → (a : ℕ) → a < N .arcs → (new : List ℕ) → Attained new → Attained (offer N old a new)
   offer-attained old reached a is-arc new so-far j arrived = go (offer-entry N old a new j)
     where
       go : Stays N old a new j ⊎ Lowered N old a new j → Arrives N source departure j (getD (offer N old a new) j never)
@@ -142,7 +142,7 @@ module _ (N : Net) (sound : Sound N) (source departure : ℕ) where
   offers-attained old reached zero among = reached
   offers-attained old reached (suc a) among = offer-attained old reached a among (offers N old a) (offers-attained old reached a (omega arith))
 
-  first-attained : Attained (within N source departure zero)
+  pub first-attained : Attained (within N source departure zero)
   first-attained j arrived = go (first-entry N source departure j)
     where
       go : (getD (within N source departure zero) j never ≡ never) ⊎ ((j ≡ source) × (getD (within N source departure zero) j never ≡ departure))

@@ -8,7 +8,7 @@ use mathlib.Core.Logic.{_↔_}
 use mathlib.Core.Option.{Option, none, some}
 use lib.Dec.{leb, ltb}
 use lib.ListN.{length, getD}
-use Rattle.model.specs.Ticks.{day, last}
+use Rattle.model.specs.Ticks.{day, last, never}
 
 pub record FencesKept (fences : List ℕ) : Type 0 where
   pub first-is-0 : getD fences 0 0 ≡ 0
@@ -36,6 +36,11 @@ intervalAfter intervals k = cond (ltb (suc k) intervals) (suc k) 0
 -- the arrival tick's remainder by 864,000". There is none where there is no tick up to the last.
 abbrev pub tickAndInterval? : List ℕ → ℕ → Option (ℕ × ℕ)
 tickAndInterval? fences t = cond (leb t last) (some (t, intervalOf fences t)) none
+
+-- Document 02, order 3: "The engines pass it on when they leave the next junction." Beside each label that is reached stands its interval.
+abbrev pub Beside : List ℕ → List ℕ → List ℕ → Type 0
+Beside fences labels intervals =
+    (j : ℕ) → j < length labels → getD labels j never < never → getD intervals j 0 ≡ intervalOf fences (getD labels j never)
 
 -- Whether interval k contains a tick. The last interval has no next fence and ends with the day.
 abbrev pub contains? : List ℕ → ℕ → ℕ → Bool

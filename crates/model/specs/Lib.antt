@@ -9,6 +9,7 @@ pub mod Limits
 pub mod Network
 pub mod NetworkRules
 pub mod Parties
+pub mod Passes
 pub mod Routes
 pub mod Rules
 pub mod Ticks

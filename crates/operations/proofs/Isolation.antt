@@ -63,6 +63,8 @@ isolation N asker first second agree = record {
   labels-call = λ source departure labels predecessors.
       let same = labels-same N asker first second agree source departure labels predecessors in
       (same, rw (same, kept N asker first second agree), rw (same, kept N asker first second agree));
+  passes-call = λ source departure labels predecessors.
+      rw (labels-same N asker first second agree source departure labels predecessors, kept N asker first second agree);
   route-call = λ source departure destination arcs.
       let same = route-same N asker first second agree source departure destination arcs in
       (same, rw (same, kept N asker first second agree), rw (same, kept N asker first second agree));

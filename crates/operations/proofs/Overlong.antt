@@ -18,6 +18,7 @@ use Rattle.checking.specs.ClosedNetwork.{closedNetworkRules, closedNetworkCheck
 use Rattle.checking.specs.Question.{startRules, questionRules}
 use Rattle.closures.specs.Rows.{StandFor, all, too-many}
 use Rattle.labelling.specs.Labels.{labelsAnswer, labelsAfter, predecessorsAfter, bufferRules}
+use Rattle.passing.specs.Passes.{passesAnswer}
 use Rattle.routing.specs.Route.{routeAnswer, routeArrival, arcsAfter, destinationRules, foundRules}
 use Rattle.sheeting.specs.Sheet.{shiftRules, sheetBufferRules, sheetAnswer, sheetLabelsAfter, sheetFiguresAfter}
 
@@ -90,6 +91,11 @@ module _ (N : Network) (asker source departure : ℕ) (labels predecessors : Lis
       (λ closures. labelsAfter (closedBy N closures) asker source departure labels predecessors)
       (λ closures. predecessorsAfter (closedBy N closures) asker source departure labels predecessors)
   labels-too-long = record { same = λ some others many more. rw (labels-overlong some many, labels-overlong others more) (refl, (refl, refl)) }
+
+  pub passes-too-long : SameTooLong (λ closures. passesAnswer (closedBy N closures) asker source departure labels predecessors)
+      (λ closures. labelsAfter (closedBy N closures) asker source departure labels predecessors)
+      (λ closures. predecessorsAfter (closedBy N closures) asker source departure labels predecessors)
+  passes-too-long = record { same = λ some others many more. rw (labels-overlong some many, labels-overlong others more) (refl, (refl, refl)) }
 
 module _ (N : Network) (asker source departure destination : ℕ) (arcs : List ℕ) where
   route-overlong : (closures : List Closure) → maxClosures < length closures → routeAnswer (closedBy N closures) asker source departure destination arcs ≡ refused (number N)

@@ -11,6 +11,7 @@ use Rattle.model.specs.Parties.{Stops}
 use Rattle.model.specs.Routes.{routeOf}
 use Rattle.model.specs.declared.closure.Closure.{Closure}
 use Rattle.labelling.specs.Labels.{labelsAnswer, labelsAfter, predecessorsAfter}
+use Rattle.passing.specs.Passes.{passesAnswer}
 use Rattle.routing.specs.Route.{routeAnswer, routeArrival, arcsAfter}
 use Rattle.sheeting.specs.Sheet.{sheetAnswer, sheetLabelsAfter, sheetFiguresAfter}
 
@@ -41,6 +42,9 @@ pub record SameFor (asker : ℕ) (A B : Network) : Type 0 where
       (labelsAnswer A asker source departure labels predecessors ≡ labelsAnswer B asker source departure labels predecessors)
       × (labelsAfter A asker source departure labels predecessors ≡ labelsAfter B asker source departure labels predecessors)
       × (predecessorsAfter A asker source departure labels predecessors ≡ predecessorsAfter B asker source departure labels predecessors)
+  -- Of Passes its answer; in the buffers it leaves what Labels does.
+  pub passes-call : (source departure : ℕ) (labels predecessors : List ℕ) →
+      passesAnswer A asker source departure labels predecessors ≡ passesAnswer B asker source departure labels predecessors
   pub route-call : (source departure destination : ℕ) (arcs : List ℕ) →
       (routeAnswer A asker source departure destination arcs ≡ routeAnswer B asker source departure destination arcs)
       × (routeArrival A asker source departure destination arcs ≡ routeArrival B asker source departure destination arcs)

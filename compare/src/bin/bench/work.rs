@@ -3,7 +3,7 @@
 use std::hint::black_box;
 
 use compare::inputs::towns::{ASKER, DEPARTURE, EVENING, SOURCE, Town, departures};
-use compare::operations::{CABINET, Converter, Operations, REFERENCE};
+use compare::operations::{CABINET, Converter, Labelling, Operations, REFERENCE};
 use compare::reference::limits::{FIGURES, MAX_ARCS, MAX_INTERVALS, MAX_TEXT, REFUSED};
 use compare::reference::{Closure, Form};
 
@@ -19,13 +19,16 @@ pub enum Operation {
     LabelsClosures1,
     LabelsClosures64,
     LabelsClosuresShared,
+    Passes,
+    PassesClosures64,
+    PassesAgainst,
     Route,
     Sheet,
     HostQuestion,
 }
 
 impl Operation {
-    pub const ALL: [Self; 13] = [
+    pub const ALL: [Self; 16] = [
         Self::Load,
         Self::LoadHeld,
         Self::ToNew,
@@ -36,6 +39,9 @@ impl Operation {
         Self::LabelsClosures1,
         Self::LabelsClosures64,
         Self::LabelsClosuresShared,
+        Self::Passes,
+        Self::PassesClosures64,
+        Self::PassesAgainst,
         Self::Route,
         Self::Sheet,
         Self::HostQuestion,
@@ -53,6 +59,9 @@ impl Operation {
             Self::LabelsClosures1 => "labels-closures-1",
             Self::LabelsClosures64 => "labels-closures-64",
             Self::LabelsClosuresShared => "labels-closures-shared",
+            Self::Passes => "passes",
+            Self::PassesClosures64 => "passes-closures-64",
+            Self::PassesAgainst => "passes-against",
             Self::Route => "route",
             Self::Sheet => "sheet",
             Self::HostQuestion => "host-question",
@@ -63,10 +72,11 @@ impl Operation {
     pub fn takes(self, town: &str) -> bool {
         match self {
             Self::Labels | Self::LabelsEvening | Self::LabelsHeld | Self::Sheet => true,
+            Self::Passes | Self::PassesAgainst => true,
             Self::Load | Self::LoadHeld | Self::ToNew | Self::ToOld => town != "full",
             Self::Route | Self::HostQuestion => town != "full",
             Self::LabelsClosures1 | Self::LabelsClosures64 => town == Town::CLOSED,
-            Self::LabelsClosuresShared => town == Town::CLOSED,
+            Self::LabelsClosuresShared | Self::PassesClosures64 => town == Town::CLOSED,
         }
     }
 
@@ -122,6 +132,7 @@ impl Row {
             Operation::LabelsHeld | Operation::LoadHeld => town.with_holds(),
             Operation::ToNew => town.to_convert(Form::New),
             Operation::ToOld => town.to_convert(Form::Old),
+            Operation::PassesAgainst => town.against_the_way(),
             _ => town,
         };
         Some(Self { operation, town })
@@ -142,7 +153,9 @@ impl Row {
     /// A call that can be repeated and lends the same buffers each time.
     pub fn call(&self, implementation: Implementation) -> Box<dyn FnMut() + '_> {
         let operations = implementation.operations();
-        let labels = |closures, departure| labels(operations, &self.town, closures, departure);
+        let labels =
+            |closures, departure| labelling(operations.labels, &self.town, closures, departure);
+        let passes = |closures| labelling(operations.passes, &self.town, closures, DEPARTURE);
         match self.operation {
             Operation::Load | Operation::LoadHeld => load(operations, &self.town),
             Operation::ToNew => convert(operations.to_new, &self.town),
@@ -152,6 +165,8 @@ impl Row {
             Operation::LabelsClosures1 => labels(self.town.closures(1), DEPARTURE),
             Operation::LabelsClosures64 => labels(self.town.closures(64), DEPARTURE),
             Operation::LabelsClosuresShared => labels(self.town.shared_closures(64), DEPARTURE),
+            Operation::Passes | Operation::PassesAgainst => passes(Vec::new()),
+            Operation::PassesClosures64 => passes(self.town.closures(64)),
             Operation::Route => route(operations, &self.town),
             Operation::Sheet => sheet(operations, &self.town),
             Operation::HostQuestion => host_question(operations, &self.town),
@@ -188,8 +203,9 @@ fn convert<'a>(converter: Converter, town: &'a Town) -> Box<dyn FnMut() + 'a> {
     })
 }
 
-fn labels<'a>(
-    operations: &'a Operations,
+/// Labels or Passes.
+fn labelling<'a, T: 'a>(
+    operation: Labelling<T>,
     town: &'a Town,
     closures: Vec<Closure>,
     departure: u32,
@@ -198,7 +214,7 @@ fn labels<'a>(
     let mut labels = vec![0; network.junctions as usize];
     let mut predecessors = vec![0; network.junctions as usize];
     Box::new(move || {
-        let reply = (operations.labels)(
+        let reply = operation(
             black_box(&network),
             black_box(&closures),
             ASKER,

@@ -1,7 +1,7 @@
 //! Properties of the interval that Arc arrival is given, and of the one it gives back
 //! for the next arc.
 
-use super::{arrival_at, cabinet_labels, cabinet_reply, driven};
+use super::{arrival_at, cabinet_labels, cabinet_passes, cabinet_reply, driven};
 use crate::cabinet;
 use crate::comparison::answers::{shown, shown_arc};
 use crate::comparison::{Check, Difference, Outcome};
@@ -132,14 +132,17 @@ fn labels_of_paths(random: &mut Random) -> Result<Outcome, Difference> {
 }
 
 /// Arc arrival improves every arc's head as long as it can, each junction with the
-/// interval given back for it; then the labels are reached.
+/// interval given back for it; then the labels are reached, by as many passes as Passes says.
 fn labels_by_arcs(random: &mut Random) -> Result<Outcome, Difference> {
     let network = random_network(random);
     let source = random.below(network.junctions);
     let departure = random_departure(random, &network.fences);
     let mut reached = vec![None; network.junctions as usize];
     reached[source as usize] = Some(arrival_at(&network.fences, departure));
-    while improve_heads(&network, &mut reached) {}
+    let mut passes = 1;
+    while improve_heads(&network, &mut reached) {
+        passes += 1;
+    }
     let label = |reached: &Option<Arrival>| reached.map_or(UNREACHED, |arrival| arrival.tick);
     let labels = reached.iter().map(label).collect();
     let mut predecessors = vec![NO_ARC; reached.len()];
@@ -151,7 +154,17 @@ fn labels_by_arcs(random: &mut Random) -> Result<Outcome, Difference> {
             predecessors[head] = arc as u16;
         }
     }
-    expect_labels(&network, source, departure, (labels, predecessors))
+    let expected = (labels, predecessors);
+    let found = cabinet_passes(&network, &[], BRIGADE, source, departure);
+    if found != (passes, expected.clone()) {
+        return Err(Difference {
+            question: format!("passes from {source} at {departure}"),
+            input: shown(&network),
+            expected: format!("{passes}, {expected:?}"),
+            found: format!("{found:?}"),
+        });
+    }
+    expect_labels(&network, source, departure, expected)
 }
 
 /// Puts each arc's arrival in its head's place if it is earlier, and says whether one was.

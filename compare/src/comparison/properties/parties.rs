@@ -3,7 +3,7 @@
 
 use super::{driven, stopping};
 use crate::cabinet;
-use crate::comparison::answers::shown_closed;
+use crate::comparison::answers::{Labelled, labelled, shown_closed};
 use crate::comparison::lent::Lent;
 use crate::comparison::{Check, Difference, Outcome};
 use crate::inputs::closures::{exchanged, random_asker, random_closures};
@@ -80,11 +80,11 @@ fn own_or_both(random: &mut Random) -> Result<Outcome, Difference> {
     Ok(driven(matters.then_some(())))
 }
 
-/// What Labels, Route and Sheet are asked, at times beyond their limits.
+/// What Labels, Passes, Route and Sheet are asked, at times beyond their limits.
 struct Question {
     network: OwnedNetwork,
     source: u32,
-    /// Labels and Route depart at the first of them.
+    /// All but Sheet depart at the first of them.
     departures: Vec<u32>,
     destination: u32,
     route_length: usize,
@@ -92,10 +92,11 @@ struct Question {
     too_long: usize,
 }
 
-/// What the three reply, and what the tables lent to them then hold.
+/// What the four reply, and what the tables lent to them then hold.
 #[derive(Debug, PartialEq)]
 struct Answers {
-    labels: (Result<(), Refusal>, Lent<u32>, Lent<u16>),
+    labels: Labelled<()>,
+    passes: Labelled<u32>,
     route: (Result<u32, Refusal>, Lent<u16>),
     sheet: (Result<(), Refusal>, Lent<u32>, Lent<u32>),
 }
@@ -150,17 +151,8 @@ impl Question {
         let (source, departures) = (self.source, &self.departures);
         let departure = departures[0];
 
-        let mut labels = Lent::new(junctions + self.too_long);
-        let mut predecessors = Lent::new(junctions);
-        let labels_reply = cabinet::labels(
-            network,
-            closures,
-            asker,
-            source,
-            departure,
-            labels.part(),
-            predecessors.part(),
-        );
+        let start = (source, departure);
+        let lengths = (junctions + self.too_long, junctions);
 
         let mut arcs = Lent::new(self.route_length);
         let route_reply = cabinet::route(
@@ -185,7 +177,22 @@ impl Question {
             figures.part(),
         );
         Answers {
-            labels: (labels_reply, labels, predecessors),
+            labels: labelled(
+                cabinet::labels,
+                &self.network,
+                closures,
+                asker,
+                start,
+                lengths,
+            ),
+            passes: labelled(
+                cabinet::passes,
+                &self.network,
+                closures,
+                asker,
+                start,
+                lengths,
+            ),
             route: (route_reply, arcs),
             sheet: (sheet_reply, rows, figures),
         }

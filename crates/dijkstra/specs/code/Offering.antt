@@ -1,16 +1,15 @@
 -- What the offers of arcs do to the tables of a labelling.
-use Prim.Native.Nat.{ℕ, _+_, _*_, _≤_, _<_}
+use Prim.Native.Nat.{ℕ, _*_, _≤_, _<_}
 use mathlib.Core.Path.{_≡_}
 use mathlib.Core.Bool.{Bool, true, false, _&&_, cond}
 use mathlib.Core.List.{List}
-use mathlib.Core.Option.{Option, none, some}
+use mathlib.Core.Option.{none, some}
 use lib.Dec.{ltb, eqb}
 use lib.ListN.{length, getD, set}
 use Rattle.model.specs.Limits.{maxJunctions, maxArcs, maxIntervals}
 use Rattle.model.specs.Labels.{noArc}
-use Rattle.model.specs.Intervals.{tickAndInterval?}
-use Rattle.model.specs.Network.{Roads, arcSpeeds, driveOf}
-use Rattle.driving.specs.ArcKept.{ArcKept}
+use Rattle.model.specs.Network.{Roads}
+use Rattle.closed_arcs.specs.Arcs.{ArrivesOn}
 use Rattle.tournament.specs.Tournament.{Tournament, Entered, keyOf}
 
 -- What the labelling writes: both buffers, the interval of each label, and the tournament of the junctions that are reached and not settled.
@@ -24,11 +23,6 @@ abbrev pub tables : List ℕ → List ℕ → List ℕ → List ℕ → Tables
 tables labels predecessors intervals tree = record { labels = labels; predecessors = predecessors; intervals = intervals; tree = tree }
 
 -- ---- An arc's offer
-
--- What driving the arc comes to, where the arc keeps the rules.
-abbrev pub ArrivesOn : Roads → ℕ → ℕ → ℕ → Option (ℕ × ℕ) → Type 0
-ArrivesOn R a tick interval arrived =
-    ArcKept tick interval (getD (R .lengths) a 0) (R .fences) (arcSpeeds R a) → arrived ≡ tickAndInterval? (R .fences) (driveOf R a tick)
 
 -- An earlier arrival lowers the head's label.
 abbrev pub lowered : List ℕ → ℕ → ℕ → List ℕ
@@ -48,14 +42,6 @@ taken labels predecessors head t a =
 pub record Rekeyed (labels before : List ℕ) (head t : ℕ) (after : List ℕ) : Type 0 where
   pub entered : t < getD labels head 0 → Entered before head (keyOf t head) after
   pub kept : getD labels head 0 ≤ t → after ≡ before
-
--- The roads have the arc.
-pub record HasArc (R : Roads) (a : ℕ) : Type 0 where
-  pub few-arcs : a < maxArcs
-  pub few-intervals : length (R .fences) ≤ maxIntervals
-  pub has-length : a < length (R .lengths)
-  pub has-hold : a < length (R .holds)
-  pub has-speeds : a * length (R .fences) + length (R .fences) ≤ length (R .speeds)
 
 -- The tables have the head.
 pub record Offerable (head : ℕ) (before : Tables) : Type 0 where

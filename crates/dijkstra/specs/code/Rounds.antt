@@ -6,7 +6,7 @@ use mathlib.Core.List.{List}
 use lib.ListN.{length, getD, set, replicate}
 use Rattle.model.specs.Ticks.{never}
 use Rattle.model.specs.Limits.{maxJunctions}
-use Rattle.model.specs.Intervals.{intervalOf}
+use Rattle.model.specs.Intervals.{intervalOf, Beside}
 use Rattle.model.specs.Network.{Roads}
 use Rattle.tournament.specs.Tournament.{Entered}
 use Rattle.dijkstra.specs.code.Offering.{Tables, tables, Leaves, Drivable, AllOffered}
@@ -26,12 +26,7 @@ pub record Settles (R : Roads) (heads first next : List ℕ) (junction : ℕ) (s
 
 -- ---- The intervals beside the labels
 
--- Document 02, order 3: "The engines pass it on when they leave the next junction." Beside each label that is reached stands its interval.
-abbrev pub Beside : List ℕ → List ℕ → List ℕ → Type 0
-Beside fences labels intervals =
-    (j : ℕ) → j < length labels → getD labels j never < never → getD intervals j 0 ≡ intervalOf fences (getD labels j never)
-
--- The labelling keeps this from round to round, in a table that has room for every junction.
+-- The labelling keeps them from round to round, in a table that has room for every junction.
 pub record IntervalsKept (fences : List ℕ) (t : Tables) : Type 0 where
   pub long : length (t .intervals) ≡ maxJunctions
   pub interval-is : Beside fences (t .labels) (t .intervals)

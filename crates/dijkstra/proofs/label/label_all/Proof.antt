@@ -3,6 +3,7 @@
 use borrow.Author.Needs.{needs}
 use Prim.Native.Nat.{_<_}
 use mathlib.Core.Path.{_≡_, refl, sym, ap, _∙_}
+use mathlib.Core.Bool.{false}
 use native.Mathlib.Omega.{arith}
 use lib.ListN.{length, set, replicate, length-replicate}
 use denote.Ref.{now}
@@ -59,19 +60,14 @@ nearest c =
 below : (c : tie.After-junction-of Inv-loop μ-loop) → c .junction-of .result < 200
 below c = omega (arith, nearest c .0 .inside, round c .loop .inv .standing .labels-long, begun (round c) .pre .tables-fit .junctions-fit)
 
-clear-requires : tie.Need-clear-requires Inv-loop μ-loop
-clear-requires c κs =
-    let s : tie.Start Inv-loop μ-loop = search in
-    s .pre .predecessors-long ∙ sym (s .pre .labels-long)
-
 mul-labels : tie.Need-mul-labels Inv-loop μ-loop
 mul-labels c = let s : tie.Start Inv-loop μ-loop = search in omega (arith, source-known s)
 
 slice-write-labels : tie.Need-slice-write-labels Inv-loop μ-loop
 slice-write-labels c =
     let s : tie.Start Inv-loop μ-loop = search in
-    let cleared : tie.After-clear Inv-loop μ-loop = search in
-    let long = ap length (cleared .clear .ensures .0) ∙ length-replicate (length (now (s .args .labels))) never in
+    let cleared : tie.After-clear-labels Inv-loop μ-loop = search in
+    let long = ap length (cleared .clear-labels .ensures) ∙ length-replicate (length (now (s .args .labels))) never in
     omega (arith, long, s .pre .labels-long, s .pre .source-below)
 
 link-arcs-requires : tie.Need-link-arcs-requires Inv-loop μ-loop
@@ -90,15 +86,18 @@ cast-intervals c =
 array-write-intervals : tie.Need-array-write-intervals Inv-loop μ-loop
 array-write-intervals c = let s : tie.Start Inv-loop μ-loop = search in source-known s
 
+abbrev cleared : tie.After-link-arcs Inv-loop μ-loop → tie.After-clear-predecessors Inv-loop μ-loop
+cleared c = search
+
 loop-holds : tie.Need-loop-holds Inv-loop μ-loop
 loop-holds c =
     let s : tie.Start Inv-loop μ-loop = search in
-    let cleared : tie.After-clear Inv-loop μ-loop = search in
+    let labels-cleared : tie.After-clear-labels Inv-loop μ-loop = search in
     let linked : tie.After-link-arcs Inv-loop μ-loop = search in
     let queued : tie.After-enter Inv-loop μ-loop = search in
-    let (no-labels, no-predecessors) = cleared .clear .ensures in
-    let labels-are = ap (λ labels. set labels (s .args .source) (s .args .departure)) (no-labels ∙ ap (λ n. replicate n never) (s .pre .labels-long)) in
-    let predecessors-are = no-predecessors ∙ ap (λ n. replicate n noArc) (s .pre .labels-long) in
+    let no-labels = labels-cleared .clear-labels .ensures ∙ ap (λ n. replicate n never) (s .pre .labels-long) in
+    let labels-are = ap (λ labels. set labels (s .args .source) (s .args .departure)) no-labels in
+    let predecessors-are = cleared linked .clear-predecessors .ensures ∙ ap (λ n. replicate n noArc) (s .pre .predecessors-long) in
     let entered = queued .enter .ensures (equal-keys never) (omega (arith, source-known s)) in
     record {
       linked = linked .link-arcs .ensures;
@@ -115,7 +114,7 @@ settle-requires c κs =
         has-label = nearest j .0 .inside;
         drivable = drivable (begun (round j) .pre .tables-fit) (b .linked) (b .standing) (below j);
       },
-      marked .mark-closed .ensures,
+      marked .mark-closed .ensures (length-replicate 640 false),
     )
 
 loop-less : tie.Need-loop-less Inv-loop μ-loop
@@ -164,7 +163,8 @@ label-all-spec =
     (tie.spec
     Inv-loop
     μ-loop
-    clear-requires
+    (λ c κs. search needs)
+    (λ c κs. search needs)
     mul-labels
     slice-write-labels
     link-arcs-requires

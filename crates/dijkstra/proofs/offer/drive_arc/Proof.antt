@@ -12,7 +12,7 @@ use Rattle.model.specs.Closures.{closed?}
 use Rattle.model.specs.Intervals.{tickAndInterval?}
 use Rattle.model.specs.Lent.{roadsIn, closuresIn}
 use Rattle.model.specs.Network.{speedOn, driveOf}
-use Rattle.dijkstra.proofs.Marks.{unmarked-open, none-open, open-drive}
+use Rattle.closed_arcs.proofs.Marks.{unmarked-open, none-open, open-drive}
 use Rattle.dijkstra.proofs.offer.drive_arc.Statement.{statement}
 use Rattle.dijkstra.proofs.offer.drive_arc.Tie as tie
 

@@ -1,7 +1,7 @@
 -- Marks: row by row each record's arc is marked, and a mark stays. An arc without a mark is closed at no tick, so that its plan alone decides.
 use Prim.Native.Nat.{ℕ, _+_, _<_, _≤_}
 use mathlib.Core.Path.{_≡_, refl, sym, ap, _∙_}
-use mathlib.Core.Bool.{Bool, true, false, cond}
+use mathlib.Core.Bool.{Bool, true, false, cond, true≢false}
 use mathlib.Core.List.{List, [], _∷_}
 use mathlib.Core.Logic.{⊎-elim}
 use native.Mathlib.Decide.{ℕ-discrete}
@@ -18,8 +18,7 @@ use Rattle.model.specs.Network.{Roads, arcSpeeds, speedOn, driveOf}
 use Rattle.model.specs.declared.closure.Closure.{Closure}
 use Rattle.model.proofs.Closures.{closed-when-tested}
 use Rattle.model.proofs.Holds.{same-arrival}
-use Rattle.checking.proofs.Flags.{true-not-false}
-use Rattle.dijkstra.specs.code.Marks.{Marked}
+use Rattle.closed_arcs.specs.Marks.{Marked}
 
 -- the arc of row k
 abbrev arcAt : List (List ℕ) → ℕ → ℕ
@@ -64,15 +63,15 @@ all-marked rows k marks so-far all i inside few =
     rw at (so-far .marked i (omega (arith, length-map rows closureOf)) (omega (arith, at)))
 
 -- An arc without a mark is closed at no tick.
-pub unmarked-open : (closures : List Closure) (marks : List Bool) → Marked closures marks → (a : ℕ) → a < maxArcs → getD marks a false ≡ false → (t : ℕ) →
-    closed? closures a t ≡ false
+pub unmarked-open : (closures : List Closure) (marks : List Bool) → Marked closures marks → (a : ℕ) → a < maxArcs →
+    getD marks a false ≡ false → (t : ℕ) → closed? closures a t ≡ false
 unmarked-open closures marks marked a few none t = go (closed? closures a t) refl
   where
     go : (closed : Bool) → closed? closures a t ≡ closed → closed ≡ false
     go true e =
         let (k, inside, closes) = closed-when-tested closures a t .0 e in
         let its = closes .its-arc in
-        absurd (true-not-false (rw its at (marked k inside (omega (arith, its)))) none)
+        absurd (true≢false (sym (rw its at (marked k inside (omega (arith, its)))) ∙ none))
     go false e = refl
 
 -- Nor is one where there are no records.

@@ -1,0 +1,2 @@
+pub mod Arcs
+pub mod Marks

@@ -99,7 +99,7 @@ module _ (N : Net) (source departure : ℕ) where
   within-no-rise k j = offers-no-rise N (within N source departure k) (N .arcs) j
 
   -- At first the source has the departure, and the others have never.
-  first-entry : (j : ℕ) → (getD (within N source departure zero) j never ≡ never) ⊎ ((j ≡ source) × (getD (within N source departure zero) j never ≡ departure))
+  pub first-entry : (j : ℕ) → (getD (within N source departure zero) j never ≡ never) ⊎ ((j ≡ source) × (getD (within N source departure zero) j never ≡ departure))
   unfolding within
   first-entry j =
       ⊎-elim (λ stays. inl (stays ∙ getD-all (N .junctions) never j)) inr (getD-set (replicate (N .junctions) never) source j departure never)

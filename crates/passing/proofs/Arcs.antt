@@ -56,6 +56,9 @@ module _ {N : Network} {labels intervals′ : List ℕ} (p : InPasses N labels i
   abbrev head : ℕ
   head = getD (N .heads) a 0
 
+  pub at-most-never : (j : ℕ) → getD labels j never ≤ never
+  at-most-never j = ⊎-elim (λ by. omega arith) (λ unreached. omega arith) (p .by-last j)
+
   pub tail-label : getD labels tail 0 ≡ getD labels tail never
   tail-label = getD-inside labels tail 0 never (placed .tail-inside)
 
@@ -75,12 +78,9 @@ module _ {N : Network} {labels intervals′ : List ℕ} (p : InPasses N labels i
   pub tail-kept : getD labels tail 0 < getD labels head 0 →
       ArcKept (getD labels tail 0) (getD intervals′ tail 0) (getD (N .lengths) a 0) (N .fences) (speedsOf N a)
   tail-kept sooner =
-      let by-last : getD labels tail never ≤ last = ⊎-elim (λ by. by) (λ unreached. absurd (omega (arith, tail-label, head-label, at-most))) (p .by-last tail) in
+      let by-last : getD labels tail never ≤ last = ⊎-elim (λ by. by) (λ unreached. absurd (omega (arith, tail-label, head-label, at-most-never head))) (p .by-last tail) in
       let in-interval = p .beside tail (placed .tail-inside) (omega (arith, by-last)) in
       arc-kept N (p .accepted) (getD labels tail 0) (getD intervals′ tail 0) a (omega (arith, tail-label)) (in-interval ∙ ap (intervalOf (N .fences)) (sym tail-label)) is-arc
-    where
-      at-most : getD labels head never ≤ never
-      at-most = ⊎-elim (λ by. omega arith) (λ unreached. omega arith) (p .by-last head)
 
   pub on-arc : (arrived : Option (ℕ × ℕ)) → arrived ≡ tickAndInterval? (N .fences) (driveOf (roadsOf N) a (getD labels tail 0)) → OnArc N labels a arrived
   on-arc (some (tick, interval)) is =

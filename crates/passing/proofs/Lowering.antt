@@ -20,14 +20,11 @@ use Rattle.model.proofs.Networks.{accepted-sound}
 use Rattle.model.proofs.Passed.{passed-at-most}
 use Rattle.model.proofs.Passes.{over-no-rise}
 use Rattle.passing.specs.code.Passing.{InPasses, offered, OnArc, arrives, too-late, not-driven, Tells, lowered, same, LabelsBecome}
-use Rattle.passing.proofs.Arcs.{placed, head-label}
+use Rattle.passing.proofs.Arcs.{placed, at-most-never, head-label}
 
 module _ {N : Network} {labels intervals′ : List ℕ} (p : InPasses N labels intervals′) {a : ℕ} (is-arc : a < arcs N) where
   abbrev head : ℕ
   head = getD (N .heads) a 0
-
-  pub at-most-never : (j : ℕ) → getD labels j never ≤ never
-  at-most-never j = ⊎-elim (λ by. omega arith) (λ unreached. omega arith) (p .by-last j)
 
   -- ---- What driving the arc tells
 
@@ -48,7 +45,7 @@ module _ {N : Network} {labels intervals′ : List ℕ} (p : InPasses N labels i
   no-sooner (arrives is by in-interval) no-lower = omega (arith, head-label p is-arc, is)
 
   pub none-sooner : OnArc N labels a none → getD labels head never ≤ offered N labels a
-  none-sooner on = ⊎-elim (λ late. omega arith) (λ none-driven. omega (arith, at-most-never head)) (none-arrived on)
+  none-sooner on = ⊎-elim (λ late. omega arith) (λ none-driven. omega (arith, at-most-never p is-arc head)) (none-arrived on)
 
   -- ---- What the arc leaves
 
@@ -84,9 +81,6 @@ module _ {N : Network} {labels intervals′ : List ℕ} (p : InPasses N labels i
 
 -- ---- A pass, arc by arc
 
-pub unlowered : {before after : List ℕ} → Tells before after false → after ≡ before
-unlowered (same is) = is
-
 abbrev pub SoFar : Network → List ℕ → ℕ → List ℕ → List ℕ → Bool → Type 0
 SoFar N before a labels intervals changed = LabelsBecome N before (passOver (netOf N) before a) labels intervals changed
 
@@ -102,7 +96,8 @@ module _ {N : Network} {before labels intervals′ : List ℕ} (a : ℕ) {change
       rw next (is ∙ ap (λ now. offer (netOf N) now a now) (so-far .labels-are))
 
   -- A label that is lowered now is lower than before the pass, in which no label rises.
-  pub pass-lowers : {labels′ intervals″ : List ℕ} → LabelsBecome N labels (offer (netOf N) labels a labels) labels′ intervals″ true → SoFar N before (a + 1) labels′ intervals″ true
+  pub pass-lowers : {labels′ intervals″ : List ℕ} → LabelsBecome N labels (offer (netOf N) labels a labels) labels′ intervals″ true →
+      SoFar N before (a + 1) labels′ intervals″ true
   pass-lowers {labels′} step = record {
     labels-are = one-more (step .labels-are);
     in-passes = step .in-passes;
@@ -115,7 +110,8 @@ module _ {N : Network} {before labels intervals′ : List ℕ} (a : ℕ) {change
       below : Tells labels labels′ true → Tells before labels′ true
       below (lowered j less) = lowered j (omega (arith, no-rise j))
 
-  pub pass-keeps : {labels′ intervals″ : List ℕ} → LabelsBecome N labels (offer (netOf N) labels a labels) labels′ intervals″ false → SoFar N before (a + 1) labels′ intervals″ changed
+  pub pass-keeps : {labels′ intervals″ : List ℕ} → LabelsBecome N labels (offer (netOf N) labels a labels) labels′ intervals″ false →
+      SoFar N before (a + 1) labels′ intervals″ changed
   pass-keeps {labels′} step = record {
     labels-are = one-more (step .labels-are);
     in-passes = step .in-passes;
@@ -123,4 +119,4 @@ module _ {N : Network} {before labels intervals′ : List ℕ} (a : ℕ) {change
   }
     where
       stays : Tells labels labels′ false → Tells before labels′ changed
-      stays told = rw (unlowered told) (so-far .tells)
+      stays (same is) = rw is (so-far .tells)

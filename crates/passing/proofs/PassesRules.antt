@@ -1,7 +1,6 @@
 -- A call is refused where Labels is; where Labels replies, so does it, with the number of passes.
 use Prim.Native.Nat.{ℕ}
 use mathlib.Core.Path.{_≡_, refl, sym, ap, _∙_}
-use mathlib.Core.Bool.{Bool, true, false, true≢false}
 use mathlib.Core.List.{List}
 use native.Mathlib.Omega.{arith}
 use Rattle.model.specs.Labels.{labelsOf, predecessorsOf}
@@ -14,28 +13,19 @@ use Rattle.checking.specs.Question.{Taken}
 use Rattle.checking.proofs.QuestionRules.{taken-for}
 use Rattle.labelling.specs.Labels.{labelsAnswer, labelsAfter, predecessorsAfter}
 use Rattle.labelling.proofs.LabelRules.{answered}
+use Rattle.labelling.proofs.LabelRules as labelling
 use Rattle.passing.specs.Passes.{replying, passesAnswer, PassesRefusesAsLabels, PassesRepliesFirstUnchanged, PassesOfCall}
 use Rattle.passing.proofs.Taken.{first-unchanged, number-bounds, leaves-labels}
 
 -- ---- Outcomes
 
-numberIn : Outcome ℕ → ℕ
-numberIn (refused number) = number
-numberIn (replied reply) = reply
-
-isRefused : Outcome ℕ → Bool
-isRefused (refused number) = true
-isRefused (replied reply) = false
-
 replying-refused : (outcome : Outcome (Unit {0})) (reply number : ℕ) → replying outcome reply ≡ refused number → outcome ≡ refused number
-unfolding numberIn isRefused
-replying-refused (refused n) reply number e = ap refused (ap numberIn e)
-replying-refused (replied unit) reply number e = absurd (true≢false (sym (ap isRefused e)))
+replying-refused (refused n) reply number e = cc e
+replying-refused (replied unit) reply number e = let none : _≡_ {A = ℕ} 0 1 = cc e in absurd (omega arith)
 
 replying-replied : (outcome : Outcome (Unit {0})) (reply number : ℕ) → replying outcome reply ≡ replied number → (outcome ≡ replied tt) × (number ≡ reply)
-unfolding numberIn isRefused
-replying-replied (refused n) reply number e = absurd (true≢false (ap isRefused e))
-replying-replied (replied unit) reply number e = (refl, sym (ap numberIn e))
+replying-replied (refused n) reply number e = let none : _≡_ {A = ℕ} 0 1 = cc e in absurd (omega arith)
+replying-replied (replied unit) reply number e = (refl, cc e)
 
 -- ---- The statements
 
@@ -60,7 +50,7 @@ passes-of-call N asker source departure labels predecessors number e =
     let (from-1, few) = number-bounds q in
     (omega arith, omega arith, rw replies (ap (afterPasses (netOf (networkFor N asker)) source departure) is ∙ leaves-labels q))
 
--- ---- How a call ends
+-- ---- How a call ends: the tables as Labels ends
 
 module _ (N : Network) (asker source departure : ℕ) (labels predecessors : List ℕ) where
   abbrev Ends : Outcome ℕ → List ℕ → List ℕ → Type 0
@@ -68,11 +58,12 @@ module _ (N : Network) (asker source departure : ℕ) (labels predecessors : Lis
       × ((labels′ ≡ labelsAfter N asker source departure labels predecessors) × (predecessors′ ≡ predecessorsAfter N asker source departure labels predecessors))
 
   pub ends-refused : {number : ℕ} → refused number ≡ labelsAnswer N asker source departure labels predecessors → Ends (refused number) labels predecessors
-  ends-refused e = (rw (← e), (rw (← e), rw (← e)))
+  ends-refused e = (rw (← e), labelling.ends-refused N asker source departure labels predecessors e .1)
 
   -- The passes, lent the records that stop the asker, have written both tables.
   pub ends-made : (closures : List Closure) {number : ℕ} {labels′ predecessors′ : List ℕ} → closures ≡ closuresFor asker (N .closures) →
       labelsAnswer N asker source departure labels predecessors ≡ replied tt → number ≡ passesOf (netOf (closedBy N closures)) source departure →
       labels′ ≡ labelsOf (netOf (closedBy N closures)) source departure → predecessors′ ≡ predecessorsOf (netOf (closedBy N closures)) source departure →
       Ends (replied number) labels′ predecessors′
-  ends-made closures same e n l p = (rw e (ap replied (rw same at n)), (rw e (rw same at l), rw e (rw same at p)))
+  ends-made closures same e n l p =
+      (rw e (ap replied (rw same at n)), labelling.ends-written N asker source departure labels predecessors e (rw same at l) (rw same at p) .1)

@@ -4,18 +4,17 @@ use Prim.Native.Nat.{ℕ, suc, _+_, _-_, _≤_, _<_}
 use mathlib.Core.Path.{_≡_, refl, sym, ap, _∙_}
 use mathlib.Core.Bool.{Bool, true, false}
 use mathlib.Core.List.{List}
-use mathlib.Core.Logic.{inl, inr, by-cases}
+use mathlib.Core.Logic.{inl, inr, ⊎-elim, by-cases}
 use native.Mathlib.Decide.{ℕ-discrete, decLt}
 use native.Mathlib.Omega.{arith}
-use lib.ListN.{length, getD, set, replicate, length-set, length-replicate}
-use lib.Seq.{getD-set-same, getD-set-other}
+use lib.ListN.{getD, set, replicate, length-set, length-replicate}
 use Rattle.model.specs.Ticks.{never}
 use Rattle.model.specs.Intervals.{intervalOf}
-use Rattle.model.specs.Labels.{labelsOf}
+use Rattle.model.specs.Labels.{within, labelsOf}
 use Rattle.model.specs.Network.{Network, netOf}
 use Rattle.model.specs.Passes.{pass, afterPasses, passesOf, Unchanged, IsFirstUnchanged}
 use Rattle.model.proofs.Beside.{beside-first}
-use Rattle.model.proofs.Entries.{getD-all}
+use Rattle.model.proofs.Within.{within-length, first-entry}
 use Rattle.checking.specs.Question.{Taken}
 use Rattle.passing.specs.code.Passing.{InPasses, Tells, lowered, same, LabelsBecome}
 use Rattle.passing.proofs.Taken.{departs, first-unchanged, number-bounds, leaves-labels}
@@ -30,26 +29,20 @@ pub record Repeating (N : Network) (source departure number : ℕ) (labels inter
 module _ {N : Network} {source departure : ℕ} (q : Taken N source departure) where
   pub repeating-starts : {labels intervals : List ℕ} {interval : ℕ} → labels ≡ set (replicate (N .junctions) never) source departure →
       interval ≡ intervalOf (N .fences) departure → intervals ≡ set (replicate 200 0) source interval → Repeating N source departure 1 labels intervals
-  unfolding afterPasses
+  unfolding afterPasses within
   repeating-starts {interval = interval} labels-are in-interval intervals-are = record {
     from-1 = omega arith;
     labels-are = labels-are;
     earlier-change = λ m from before. absurd (omega arith);
     in-passes = rw (labels-are, intervals-are) (record {
       accepted = q .accepted;
-      labels-long = length-set (replicate (N .junctions) never) source departure ∙ length-replicate (N .junctions) never;
+      labels-long = within-length (netOf N) source departure 0;
       intervals-long = length-set (replicate 200 0) source interval ∙ length-replicate {A = ℕ} 200 0;
-      by-last = λ j.
-          by-cases (ℕ-discrete j source)
-          (λ e. inl (rw (e, getD-set-same (replicate (N .junctions) never) source departure never has-source) (departs q)))
-          (λ other. inr (getD-set-other (replicate (N .junctions) never) source j departure never other ∙ getD-all (N .junctions) never j));
+      by-last = λ j. ⊎-elim inr (λ (_, is). inl (omega (arith, is, departs q))) (first-entry (netOf N) source departure j);
       beside = beside-first (N .fences) (N .junctions) 200 source departure interval (q .source-below)
           (omega (arith, q .source-below, q .accepted .junctions-fit)) in-interval;
     });
   }
-    where
-      has-source : source < length (replicate (N .junctions) never)
-      has-source = rw length-replicate (q .source-below)
 
   module _ {number : ℕ} {labels intervals : List ℕ} (r : Repeating N source departure number labels intervals) where
     -- The first pass that changes none is not an earlier one, and its number is at most the junction count.

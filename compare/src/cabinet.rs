@@ -87,6 +87,31 @@ mod exports {
             predecessor_count: usize,
         ) -> u32;
 
+        pub fn exports_tables_check(
+            junctions: u32,
+            fences: *const u32,
+            fence_count: usize,
+            tails: *const u16,
+            tail_count: usize,
+            heads: *const u16,
+            head_count: usize,
+            lengths: *const u32,
+            length_count: usize,
+            holds: *const u16,
+            hold_count: usize,
+            speeds: *const u8,
+            speed_count: usize,
+            closures: *const Closure,
+            closure_count: usize,
+            asker: u32,
+            source: u32,
+            departure: u32,
+            labels: *const u32,
+            label_count: usize,
+            predecessors: *const u16,
+            predecessor_count: usize,
+        ) -> u32;
+
         pub fn exports_route(
             junctions: u32,
             fences: *const u32,
@@ -297,6 +322,34 @@ pub fn passes(
     decoded(answer)
 }
 
+pub fn tables_check(
+    network: &Network,
+    closures: &[Closure],
+    asker: u32,
+    source: u32,
+    departure: u32,
+    labels: &[u32],
+    predecessors: &[u16],
+) -> Result<bool, Refusal> {
+    // SAFETY: each pointer and length belong to one slice lent for the call.
+    let answer = unsafe {
+        on_network!(
+            exports_tables_check,
+            network,
+            closures.as_ptr(),
+            closures.len(),
+            asker,
+            source,
+            departure,
+            labels.as_ptr(),
+            labels.len(),
+            predecessors.as_ptr(),
+            predecessors.len(),
+        )
+    };
+    decoded_yes_or_no(answer)
+}
+
 pub fn route(
     network: &Network,
     closures: &[Closure],
@@ -440,6 +493,16 @@ fn decoded(answer: u32) -> Result<u32, Refusal> {
     }
 }
 
+/// Reads an answer that is 1 for yes, 0 for no, or a refusal's number above `REFUSED`. One
+/// that is none of these gives a number that no refusal has, so that a comparison sees it.
+fn decoded_yes_or_no(answer: u32) -> Result<bool, Refusal> {
+    match answer {
+        0 => Ok(false),
+        1 => Ok(true),
+        _ => Err(Refusal(answer.wrapping_sub(REFUSED))),
+    }
+}
+
 /// Reads an answer that is a value or a refusal's number and line.
 fn decoded_text_answer(answer: u64) -> Result<u64, LoadRefusal> {
     if answer & TEXT_REFUSED == 0 {
@@ -492,6 +555,17 @@ mod tests {
         // None of the three forms.
         assert_eq!(decoded_arrival((1 << 62) + 7), arrival(7, 1 << 30));
         assert_eq!(decoded_arrival((3 << 62) + 7), arrival(7, 3 << 30));
+    }
+
+    #[test]
+    fn reads_yes_and_no() {
+        assert_eq!(decoded_yes_or_no(1), Ok(true));
+        assert_eq!(decoded_yes_or_no(0), Ok(false));
+        assert_eq!(decoded_yes_or_no(4_294_900_011), Err(Refusal(11)));
+        // None of the three forms.
+        assert_eq!(decoded_yes_or_no(2), Err(Refusal(67_298)));
+        assert_eq!(decoded_yes_or_no(11), Err(Refusal(67_307)));
+        assert_eq!(decoded_yes_or_no(4_294_899_999), Err(Refusal(u32::MAX)));
     }
 
     #[test]

@@ -27,10 +27,11 @@ pub struct Check {
     pub refuses: &'static [RangeInclusive<u32>],
 }
 
-pub const CHECKS: [&Check; 47] = [
+pub const CHECKS: [&Check; 52] = [
     &cases::NETWORK_CHECK,
     &cases::ARC_ARRIVAL,
     &cases::LABELS,
+    &cases::TABLES_CHECK,
     &cases::ROUTE,
     &cases::SHEET,
     &cases::LOAD,
@@ -70,6 +71,10 @@ pub const CHECKS: [&Check; 47] = [
     &properties::PASSES_OF_PATHS,
     &properties::PASSES_RENUMBERED,
     &properties::PASSES_TWICE,
+    &properties::OWN_TABLES,
+    &properties::ONE_ENTRY_CHANGED,
+    &properties::TABLES_OF_ANOTHER,
+    &properties::EITHER_OF_TWO_ARCS,
     &properties::CONVERTED_AS_WRITTEN,
     &properties::THERE_AND_BACK,
     &properties::CONVERTED_TOWN,
@@ -81,8 +86,8 @@ pub const CHECKS: [&Check; 47] = [
 #[derive(Clone, Copy, Debug, PartialEq, Eq, PartialOrd, Ord)]
 pub enum Outcome {
     Answered,
-    /// The arc cannot be driven, there is no name, or midnight, the holds, the closures,
-    /// their parties or the arcs' numbers make no difference.
+    /// The arc cannot be driven, there is no name, the tables are not right, or midnight, the
+    /// holds, the closures, their parties or the arcs' numbers make no difference.
     Nothing,
     Refused(Refusal),
 }

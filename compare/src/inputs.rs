@@ -1,4 +1,4 @@
-//! Networks, closures and town files to ask about, the same on every machine.
+//! Networks, closures, tables and town files to ask about, the same on every machine.
 
 pub mod closures;
 pub mod damage;
@@ -6,6 +6,7 @@ pub mod examples;
 pub mod grids;
 pub mod networks;
 mod random;
+pub mod tables;
 pub mod texts;
 pub mod towns;
 

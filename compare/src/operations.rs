@@ -17,6 +17,17 @@ pub type Labelling<R> = fn(
     predecessors: &mut [u16],
 ) -> Result<R, Refusal>;
 
+/// Takes a question, and lent labels and predecessors to read; returns whether they are right.
+pub type TablesCheck = fn(
+    network: &Network,
+    closures: &[Closure],
+    asker: u32,
+    source: u32,
+    departure: u32,
+    labels: &[u32],
+    predecessors: &[u16],
+) -> Result<bool, Refusal>;
+
 #[expect(clippy::type_complexity, reason = "the signatures are the operations'")]
 pub struct Operations {
     pub network_check: fn(&Network) -> Result<(), Refusal>,
@@ -24,6 +35,7 @@ pub struct Operations {
     pub labels: Labelling<()>,
     /// Returns the number of passes.
     pub passes: Labelling<u32>,
+    pub tables_check: TablesCheck,
     pub route: fn(
         network: &Network,
         closures: &[Closure],
@@ -72,6 +84,7 @@ pub const REFERENCE: Operations = Operations {
     arc_arrival: reference::arc_arrival,
     labels: reference::labels,
     passes: reference::passes,
+    tables_check: reference::tables_check,
     route: reference::route,
     sheet: reference::sheet,
     load: reference::load,
@@ -86,6 +99,7 @@ pub const CABINET: Operations = Operations {
     arc_arrival: cabinet::arc_arrival,
     labels: cabinet::labels,
     passes: cabinet::passes,
+    tables_check: cabinet::tables_check,
     route: cabinet::route,
     sheet: cabinet::sheet,
     load: cabinet::load,

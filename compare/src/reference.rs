@@ -17,6 +17,7 @@ mod programs;
 mod refusal;
 mod route;
 mod sheet;
+mod tables_check;
 
 pub use arc::{Arrival, arc_arrival};
 pub use closures::Closure;
@@ -30,3 +31,4 @@ pub use programs::{arrivals_text, sheet_text, to_new_text, to_old_text};
 pub use refusal::{LoadRefusal, Refusal};
 pub use route::route;
 pub use sheet::sheet;
+pub use tables_check::{certificate_check, tables_check};

@@ -1,5 +1,6 @@
 //! The programs' size limit, midnight and the last tick, an arc's intervals, holds,
-//! closures and their parties, passes, a sheet's list and buffers, and towns of fixed size.
+//! closures and their parties, passes, tables that are sent, a sheet's list and buffers, and
+//! towns of fixed size.
 
 #[path = "boundaries/closures.rs"]
 mod closures;
@@ -11,6 +12,8 @@ mod intervals;
 mod parties;
 #[path = "boundaries/passes.rs"]
 mod passes;
+#[path = "boundaries/tables.rs"]
+mod tables;
 
 use compare::cabinet;
 use compare::comparison::answers::{self, TableLengths};
@@ -293,8 +296,9 @@ fn sheet_number(
     ))
 }
 
-/// The numbers of Labels and Passes, Route and Sheet from 9 on, each alone and with all later ones,
-/// on a town of ten junctions that is refused with the number before them, or with none.
+/// The numbers of Labels, Passes and the tables check, Route and Sheet from 9 on, each alone and
+/// with all later ones, on a town of ten junctions that is refused with the number before them,
+/// or with none.
 fn assert_numbers_after(network: &OwnedNetwork, closures: &[Closure], asker: u32, before: u32) {
     let expect = |number| if before == 0 { number } else { before };
     let labels = |start, buffers| number(answers::labels(network, closures, asker, start, buffers));

@@ -30,6 +30,11 @@ fn labels_and_passes() {
 }
 
 #[test]
+fn tables_check() {
+    run(&cases::TABLES_CHECK);
+}
+
+#[test]
 fn route() {
     run(&cases::ROUTE);
 }
@@ -222,6 +227,26 @@ fn passes_renumbered() {
 #[test]
 fn passes_twice() {
     run(&properties::PASSES_TWICE);
+}
+
+#[test]
+fn own_tables() {
+    run(&properties::OWN_TABLES);
+}
+
+#[test]
+fn one_entry_changed() {
+    run(&properties::ONE_ENTRY_CHANGED);
+}
+
+#[test]
+fn tables_of_another() {
+    run(&properties::TABLES_OF_ANOTHER);
+}
+
+#[test]
+fn either_of_two_arcs() {
+    run(&properties::EITHER_OF_TWO_ARCS);
 }
 
 #[test]

@@ -1,12 +1,14 @@
-//! The reckonings that document 01 keeps, alone, on a sheet and by passes, and more of them
-//! around midnight, with holds and with closures, put to the library and the reference. An
-//! arc's have their intervals.
+//! The reckonings that document 01 keeps, alone, on a sheet, by passes and as tables to be
+//! checked, and more of them around midnight, with holds and with closures, put to the library
+//! and the reference. An arc's have their intervals.
 
 use compare::comparison::program::{ARRIVALS, Run, SHEET, TO_NEW, TO_OLD};
 use compare::inputs::examples::{HELD_TOWN, HELD_TOWN_TEXT, TABLE_1, TOWN, TOWN_TEXT};
 use compare::operations::{CABINET, Converter, Operations, REFERENCE};
-use compare::reference::limits::{BOTH_PARTIES, BRIGADE, DEPOT, NO_ARC, REFUSED};
-use compare::reference::{Arrival, Closure, Counts, LoadRefusal, Network, Refusal};
+use compare::reference::limits::{BOTH_PARTIES, BRIGADE, DEPOT, NO_ARC, REFUSED, UNREACHED};
+use compare::reference::{
+    Arrival, Closure, Counts, LoadRefusal, Network, Refusal, certificate_check,
+};
 
 const BOTH: [Operations; 2] = [CABINET, REFERENCE];
 
@@ -540,6 +542,107 @@ fn passes_of_document_004() {
             let (found, reversed_ticks, _) =
                 passes(&operations, &reversed, departure).expect("accepted");
             assert_eq!((found, reversed_ticks), (number, ticks));
+        }
+    }
+}
+
+/// Whether these are right from junction 0.
+fn tables_check(
+    operations: &Operations,
+    network: &Network,
+    departure: u32,
+    labels: &[u32],
+    predecessors: &[u16],
+) -> Result<bool, Refusal> {
+    (operations.tables_check)(network, &[], DEPOT, 0, departure, labels, predecessors)
+}
+
+/// The certificate is the reference's other way.
+const ALL: [Operations; 3] = [
+    CABINET,
+    REFERENCE,
+    Operations {
+        tables_check: certificate_check,
+        ..REFERENCE
+    },
+];
+
+#[test]
+fn the_tables() {
+    let right = ([10, 60, 100], [NO_ARC, 0, 1]);
+    for operations in ALL {
+        let check = |network: &Network, labels: &[u32], predecessors: &[u16]| {
+            tables_check(&operations, network, 10, labels, predecessors)
+        };
+        assert_eq!(check(&TOWN, &right.0, &right.1), Ok(true));
+        for labels in [
+            [9, 60, 100],
+            [11, 60, 100],
+            [10, 59, 100],
+            [10, 61, 100],
+            [10, 60, 99],
+            [10, 60, 101],
+            [10, 60, 110],
+            [10, 60, UNREACHED],
+            [UNREACHED, 60, 100],
+        ] {
+            assert_eq!(check(&TOWN, &labels, &right.1), Ok(false));
+        }
+        for predecessors in [
+            [0, 0, 1],
+            [NO_ARC, NO_ARC, 1],
+            [NO_ARC, 1, 1],
+            [NO_ARC, 0, 0],
+            [NO_ARC, 0, 2],
+            [NO_ARC, 0, 3],
+            [NO_ARC, 0, NO_ARC - 1],
+            [NO_ARC, 0, NO_ARC],
+        ] {
+            assert_eq!(check(&TOWN, &right.0, &predecessors), Ok(false));
+        }
+        // Arc 2 attains 110, but arc 1 is earlier there; with a hold it is not, or as early.
+        let by_arc_2 = ([10, 60, 110], [NO_ARC, 0, 2]);
+        for (hold, expected) in [
+            (0, [false, false]),
+            (9, [false, false]),
+            (10, [true, true]),
+            (11, [false, true]),
+        ] {
+            let network = Network {
+                holds: &[0, hold, 0],
+                ..TOWN
+            };
+            let by_either = [right.1, by_arc_2.1];
+            let found = by_either.map(|arcs| check(&network, &by_arc_2.0, &arcs));
+            assert_eq!(found, expected.map(Ok));
+        }
+        assert_eq!(check(&HELD_TOWN, &[10, 60, 117], &by_arc_2.1), Ok(true));
+        assert_eq!(check(&HELD_TOWN, &[10, 60, 110], &by_arc_2.1), Ok(false));
+        let refused = tables_check(&operations, &TOWN, 864_000, &right.0, &right.1[1..]);
+        assert_eq!(refused, Err(Refusal(10)));
+        assert_eq!(check(&TOWN, &right.0, &right.1[1..]), Err(Refusal(11)));
+        assert_eq!(check(&TOWN, &right.0[1..], &right.1), Err(Refusal(11)));
+    }
+}
+
+#[test]
+fn tables_of_document_004() {
+    for operations in ALL {
+        let ticks = [9_000, 18_000, 26_000, 27_000, 34_000];
+        let check = |labels: &[u32], predecessors: &[u16]| {
+            tables_check(&operations, &TABLE_1, 9_000, labels, predecessors)
+        };
+        assert_eq!(check(&ticks, &[NO_ARC, 0, 2, 3, 5]), Ok(true));
+        // By o-b, by b-c, and by c-d.
+        assert_eq!(check(&ticks, &[NO_ARC, 0, 1, 3, 5]), Ok(false));
+        assert_eq!(check(&ticks, &[NO_ARC, 0, 2, 4, 5]), Ok(false));
+        assert_eq!(check(&ticks, &[NO_ARC, 0, 2, 3, 6]), Ok(false));
+        for departure in [21_000, 24_000, 27_000] {
+            let (labels, arcs) = labels(&operations, &TABLE_1, departure).expect("accepted");
+            let check = |departure| tables_check(&operations, &TABLE_1, departure, &labels, &arcs);
+            assert_eq!(check(departure), Ok(true));
+            assert_eq!(check(departure - 1), Ok(false));
+            assert_eq!(check(departure + 1), Ok(false));
         }
     }
 }

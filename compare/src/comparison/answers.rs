@@ -1,15 +1,17 @@
 //! One question put to the reference and to the library, for each operation.
 
 use std::fmt::Debug;
+use std::hint::black_box;
 
 use super::lent::Lent;
 use super::program::{Program, Run};
 use super::{Difference, Outcome};
-use crate::inputs::OwnedNetwork;
 use crate::inputs::networks::LoneArc;
-use crate::operations::{CABINET, Labelling, Operations, REFERENCE};
+use crate::inputs::tables;
+use crate::inputs::{OwnedNetwork, Random};
+use crate::operations::{CABINET, Labelling, Operations, REFERENCE, TablesCheck};
 use crate::reference::limits::{FIGURES, REFUSED};
-use crate::reference::{Closure, Form, Refusal};
+use crate::reference::{Closure, Form, Refusal, certificate_check};
 
 /// What an operation replied and what the lent buffers then hold.
 #[derive(Debug, PartialEq)]
@@ -17,7 +19,7 @@ pub(super) struct Answer<R, B> {
     reply: R,
     /// Whether nothing but the entries due was written.
     kept: bool,
-    buffers: B,
+    pub(super) buffers: B,
 }
 
 impl<R> Answer<R, ()> {
@@ -75,6 +77,15 @@ pub(super) fn shown_closed(network: &OwnedNetwork, closures: &[Closure]) -> Vec<
     format!("{network:#?}\n{closures:#?}\n").into_bytes()
 }
 
+pub(super) fn shown_tables(
+    network: &OwnedNetwork,
+    closures: &[Closure],
+    (labels, predecessors): (&[u32], &[u16]),
+) -> Vec<u8> {
+    let tables = format!("labels {labels:?}\npredecessors {predecessors:?}\n");
+    [shown_closed(network, closures), tables.into_bytes()].concat()
+}
+
 pub(super) fn shown_arc(arc: &LoneArc) -> Vec<u8> {
     format!("{arc:?}\n").into_bytes()
 }
@@ -108,7 +119,8 @@ pub fn arc_arrival(arc: &LoneArc, departure: u32, interval: u32) -> Result<Outco
 
 /// Labels and Passes, to which the same is lent. Each is compared with the reference, and the
 /// library's Passes with its own Labels: it refuses and writes the same, and its number of
-/// passes is one that there can be.
+/// passes is one that there can be. Then the tables check is asked about what Labels left,
+/// which is right unless it refuses, and about some altered tables.
 pub fn labels(
     network: &OwnedNetwork,
     closures: &[Closure],
@@ -142,7 +154,91 @@ pub fn labels(
             found: format!("{passes:?}"),
         });
     }
-    Ok(Outcome::of(&labels.reply))
+    let outcome = Outcome::of(&labels.reply);
+    let own = (labels.buffers.0.entries(), labels.buffers.1.entries());
+    let found = tables_check(network, closures, asker, start, own)?;
+    if found != outcome {
+        return Err(Difference {
+            question: question("tables check and labels"),
+            input: input(),
+            expected: outcome.to_string(),
+            found: found.to_string(),
+        });
+    }
+    if outcome == Outcome::Answered {
+        let (source, departure) = start;
+        // The same ones whenever the same is asked.
+        let random = &mut Random::new(u64::from(source) << 32 | u64::from(departure));
+        for _ in 0..ALTERED {
+            let mut altered = (own.0.to_vec(), own.1.to_vec());
+            tables::alter(random, network, departure, &mut altered);
+            tables_check(network, closures, asker, start, (&altered.0, &altered.1))?;
+        }
+    }
+    Ok(outcome)
+}
+
+/// How many altered tables are tried after Labels' own.
+const ALTERED: usize = 2;
+
+/// The tables check of these labels and predecessors, which must stay as they are. Both ways
+/// of the reference are compared. Nothing is found if it says no.
+pub fn tables_check(
+    network: &OwnedNetwork,
+    closures: &[Closure],
+    asker: u32,
+    start: (u32, u32),
+    tables: (&[u32], &[u16]),
+) -> Result<Outcome, Difference> {
+    let (source, departure) = start;
+    let question = format!("tables check for {asker} from {source} at {departure}");
+    let input = || shown_tables(network, closures, tables);
+    let answer = |operation| checked(operation, network, closures, asker, start, tables);
+    let defined = agreed(&question, input, |operations| {
+        answer(operations.tables_check)
+    })?;
+    let certified = answer(certificate_check);
+    if certified != defined {
+        return Err(Difference {
+            question: format!("{question}, by its definition and as a certificate"),
+            input: input(),
+            expected: format!("{defined:?}"),
+            found: format!("{certified:?}"),
+        });
+    }
+    Ok(match defined.reply {
+        Ok(false) => Outcome::Nothing,
+        _ => Outcome::of(&defined.reply),
+    })
+}
+
+/// The answer of a tables check, which is to leave all that is lent to it.
+pub(super) fn checked(
+    operation: TablesCheck,
+    network: &OwnedNetwork,
+    closures: &[Closure],
+    asker: u32,
+    (source, departure): (u32, u32),
+    (labels, predecessors): (&[u32], &[u16]),
+) -> Labelled<bool> {
+    let sent = (Lent::holding(labels), Lent::holding(predecessors));
+    let lent = sent.clone();
+    let reply = operation(
+        &network.lent(),
+        closures,
+        asker,
+        source,
+        departure,
+        lent.0.entries(),
+        lent.1.entries(),
+    );
+    // What was lent to be read might have been written all the same.
+    let lent = black_box(lent);
+    Answer {
+        reply,
+        kept: lent == sent,
+        buffers: lent,
+    }
 }
 
 /// An answer with the labels and predecessors.

@@ -11,6 +11,7 @@ use crate::inputs::networks::{
     LoneArc, interval_at, random_arc, random_arc_departure, random_departure, random_departures,
     random_network, random_path,
 };
+use crate::inputs::tables::Question;
 use crate::inputs::texts::{pad, question_line, random_town, random_town_of};
 use crate::inputs::{OwnedNetwork, Random};
 use crate::reference::limits::{
@@ -36,10 +37,19 @@ pub const ARC_ARRIVAL: Check = Check {
 };
 
 pub const LABELS: Check = Check {
-    name: "labels and passes",
+    name: "labels, passes and tables check",
     cases: 40_000,
     run: labels,
     finds_nothing: false,
+    refuses: &[1..=11, 32..=32, 36..=39],
+};
+
+/// Finds nothing where it says no.
+pub const TABLES_CHECK: Check = Check {
+    name: "tables check",
+    cases: 30_000,
+    run: tables_check,
+    finds_nothing: true,
     refuses: &[1..=11, 32..=32, 36..=39],
 };
 
@@ -167,11 +177,7 @@ fn arc_arrival(random: &mut Random) -> Result<Outcome, Difference> {
 }
 
 fn labels(random: &mut Random) -> Result<Outcome, Difference> {
-    let mut network = if random.one_in(8) {
-        random_path(random)
-    } else {
-        random_network(random)
-    };
+    let mut network = random_network_or_path(random);
     let start = random_start(random, &network);
     if random.one_in(4) {
         // So that there are many passes.
@@ -187,6 +193,39 @@ fn labels(random: &mut Random) -> Result<Outcome, Difference> {
         damage_network(random, &mut network);
     }
     answers::labels(&network, &closures, asker, start, buffers)
+}
+
+fn random_network_or_path(random: &mut Random) -> OwnedNetwork {
+    if random.one_in(8) {
+        random_path(random)
+    } else {
+        random_network(random)
+    }
+}
+
+fn tables_check(random: &mut Random) -> Result<Outcome, Difference> {
+    let network = random_network_or_path(random);
+    let start = random_start(random, &network);
+    let (closures, asker) = random_closures_and_asker(random, &network, start);
+    let mut question = Question {
+        network,
+        closures,
+        asker,
+        source: start.0,
+        departure: start.1,
+    };
+    let (mut labels, mut predecessors) = question.random_tables(random);
+    if random.one_in(8) {
+        labels.resize(near(random, labels.len()), DAY);
+        predecessors.resize(near(random, predecessors.len()), 0);
+    }
+    if random.one_in(4) {
+        damage_network(random, &mut question.network);
+    }
+    let Question {
+        network, closures, ..
+    } = question;
+    answers::tables_check(&network, &closures, asker, start, (&labels, &predecessors))
 }
 
 fn route(random: &mut Random) -> Result<Outcome, Difference> {

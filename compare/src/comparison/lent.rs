@@ -1,6 +1,6 @@
 /// A buffer to lend, filled with a pattern. It has a margin on either side, so
 /// that a write beside the lent part is seen as well.
-#[derive(Debug, PartialEq)]
+#[derive(Clone, Debug, PartialEq)]
 pub struct Lent<T> {
     cells: Vec<T>,
 }
@@ -14,9 +14,25 @@ impl<T: PartialEq + From<u8>> Lent<T> {
         }
     }
 
+    /// Holds these entries instead of the pattern.
+    pub fn holding(entries: &[T]) -> Self
+    where
+        T: Copy,
+    {
+        let mut lent = Self::new(entries.len());
+        lent.part().copy_from_slice(entries);
+        lent
+    }
+
     pub fn part(&mut self) -> &mut [T] {
         let end = self.cells.len() - MARGIN;
         &mut self.cells[MARGIN..end]
+    }
+
+    /// The part, to be read.
+    pub fn entries(&self) -> &[T] {
+        let end = self.cells.len() - MARGIN;
+        &self.cells[MARGIN..end]
     }
 
     /// Whether all but the first entries of the lent part are unchanged.

@@ -9,6 +9,7 @@ mod midnight;
 mod parties;
 mod passes;
 mod sheets;
+mod tables;
 
 pub use closures::{
     CLOSED_AT_START, CLOSED_THROUGHOUT, CLOSURE_LIST, CLOSURES_AS_INTERVALS, MORE_CLOSED,
@@ -24,6 +25,7 @@ pub use midnight::{DAY_LATER, LABELS_ROTATED};
 pub use parties::{OTHERS_CLOSURES, OWN_OR_BOTH, PARTIES_EXCHANGED};
 pub use passes::{PASSES_OF_PATHS, PASSES_RENUMBERED, PASSES_TWICE};
 pub use sheets::{SHEET_BY_LABELS, SHEET_SHUFFLED, SHEET_TWICE};
+pub use tables::{EITHER_OF_TWO_ARCS, ONE_ENTRY_CHANGED, OWN_TABLES, TABLES_OF_ANOTHER};
 
 use super::answers::{shown_arc, shown_closed};
 use super::{Check, Difference, Outcome};
@@ -187,8 +189,8 @@ fn in_time(tick: u32) -> Option<u32> {
     (tick <= LAST_TICK).then_some(tick)
 }
 
-/// Labels, predecessors and routes against every walk of a small network, and the passes
-/// that find the labels arc by arc.
+/// Labels, predecessors and routes against every walk of a small network, the passes that find
+/// the labels arc by arc, and the predecessors that may stand beside them in tables.
 fn labels_by_walks(random: &mut Random) -> Result<Outcome, Difference> {
     let network = small_network(random);
     let source = random.below(network.junctions);
@@ -199,7 +201,7 @@ fn labels_by_walks(random: &mut Random) -> Result<Outcome, Difference> {
     let walks = Walks::all(&network, &stopping, source, departure);
     let tables = (walks.labels.clone(), walks.predecessors());
     let passes = (walks.passes(departure), tables.clone());
-    let expected = (tables, walks.routes(), passes);
+    let expected = (tables.clone(), walks.routes(), passes, walks.attaining());
     let routes = (0..network.junctions)
         .map(|to| cabinet_route(&network, &closures, asker, (source, departure), to))
         .collect();
@@ -207,16 +209,44 @@ fn labels_by_walks(random: &mut Random) -> Result<Outcome, Difference> {
         cabinet_labels(&network, &closures, asker, source, departure),
         routes,
         cabinet_passes(&network, &closures, asker, source, departure),
+        cabinet_taken(&network, &closures, asker, (source, departure), &tables),
     );
     if found != expected {
         return Err(Difference {
-            question: format!("labels, routes and passes for {asker} from {source} at {departure}"),
+            question: format!(
+                "labels, routes, passes and tables for {asker} from {source} at {departure}"
+            ),
             input: shown_closed(&network, &closures),
             expected: format!("{expected:?}"),
             found: format!("{found:?}"),
         });
     }
     Ok(Outcome::Answered)
+}
+
+/// What the tables check takes for each junction's predecessor, of all numbers of arcs and some
+/// others, if nothing else is changed.
+fn cabinet_taken(
+    network: &OwnedNetwork,
+    closures: &[Closure],
+    asker: u32,
+    (source, departure): (u32, u32),
+    (labels, predecessors): &(Vec<u32>, Vec<u16>),
+) -> Vec<Vec<u16>> {
+    let lent = network.lent();
+    let arcs = network.arcs() as u16;
+    let taken = |junction: usize| {
+        let numbers = (0..arcs + 2).chain([256, NO_ARC - 1, NO_ARC]);
+        let taken = numbers.filter(|&number| {
+            let mut sent = predecessors.clone();
+            sent[junction] = number;
+            let reply =
+                cabinet::tables_check(&lent, closures, asker, source, departure, labels, &sent);
+            reply.expect("a good question")
+        });
+        taken.collect()
+    };
+    (0..labels.len()).map(taken).collect()
 }
 
 /// The records that stop the asker.
@@ -294,17 +324,19 @@ fn cabinet_route(
     Some(arcs)
 }
 
-/// What Labels, Passes, Route and Sheet say to an unknown source, with all after it wrong too.
+/// What Labels, Passes, the tables check, Route and Sheet say to an unknown source, with all
+/// after it wrong too.
 fn refused_by_the_source(
     network: &OwnedNetwork,
     closures: &[Closure],
     asker: u32,
-) -> [Result<(), Refusal>; 4] {
+) -> [Result<(), Refusal>; 5] {
     let network = &network.lent();
     let unknown = network.junctions;
     [
         cabinet::labels(network, closures, asker, unknown, DAY, &mut [], &mut []),
         cabinet::passes(network, closures, asker, unknown, DAY, &mut [], &mut []).map(drop),
+        cabinet::tables_check(network, closures, asker, unknown, DAY, &[], &[]).map(drop),
         cabinet::route(network, closures, asker, unknown, DAY, unknown, &mut []).map(drop),
         cabinet::sheet(network, closures, asker, unknown, &[], &mut [], &mut []),
     ]
@@ -371,21 +403,38 @@ impl<'a> Walks<'a> {
         arrival_by_ticks(departure, length, hold, network.fences, speeds, closed)
     }
 
-    /// The lowest arc that attains the junction's label, if it has one.
-    fn predecessor(&self, junction: usize) -> Option<usize> {
+    /// The arcs that attain the junction's label; none for the source.
+    fn arcs_attaining(&self, junction: usize) -> impl Iterator<Item = usize> {
         let label = self.labels[junction];
-        let attains = |&arc: &usize| {
+        let attains = move |&arc: &usize| {
             let tail_label = self.labels[self.tail(arc)];
             self.head(arc) == junction
                 && tail_label != UNREACHED
                 && self.drive(arc, tail_label) == Some(label)
         };
-        let expected = junction != self.source && label != UNREACHED;
-        expected.then(|| {
-            (0..self.network.arcs())
-                .find(attains)
-                .expect("an arc attains it")
-        })
+        let arcs = if junction == self.source {
+            0
+        } else {
+            self.network.arcs()
+        };
+        (0..arcs).filter(attains)
+    }
+
+    /// The lowest arc that attains the junction's label, if it has one.
+    fn predecessor(&self, junction: usize) -> Option<usize> {
+        self.arcs_attaining(junction).next()
+    }
+
+    /// The predecessors that each junction may have.
+    fn attaining(&self) -> Vec<Vec<u16>> {
+        let numbers = |junction| {
+            let arcs: Vec<u16> = self
+                .arcs_attaining(junction)
+                .map(|arc| arc as u16)
+                .collect();
+            if arcs.is_empty() { vec![NO_ARC] } else { arcs }
+        };
+        (0..self.labels.len()).map(numbers).collect()
     }
 
     /// Lowers labels arc by arc as long as a pass changes one, and counts the passes.

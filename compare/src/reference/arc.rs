@@ -149,6 +149,57 @@ impl Departure {
         }
         Drive::Continue(remaining)
     }
+
+    /// The spans that are covered up to and without the end tick, which is not before the
+    /// departure nor after the last one, and the speed of the end tick itself.
+    #[inline]
+    pub fn cover_until(
+        mut self,
+        end: u32,
+        fences: &[u32],
+        speeds: &[u8],
+        closures: &[Closure],
+    ) -> (u32, u32) {
+        let mut spans = 0;
+        for closure in closures.iter().take_while(|closure| closure.first <= end) {
+            if self.tick < closure.first {
+                spans += self.cover_open_until(closure.first, fences, speeds).0;
+            }
+            if end < closure.end {
+                return (spans, 0);
+            }
+            if self.tick < closure.end {
+                let interval = interval_at(closure.end % DAY, fences);
+                self = Self::new(closure.end, interval);
+            }
+        }
+        let (rest, speed) = self.cover_open_until(end, fences, speeds);
+        (spans + rest, speed)
+    }
+
+    #[inline(always)]
+    fn cover_open_until(self, end: u32, fences: &[u32], speeds: &[u8]) -> (u32, u32) {
+        let Self {
+            mut tick,
+            mut midnight,
+            mut interval,
+        } = self;
+        let mut spans = 0;
+        loop {
+            let speed = u32::from(speeds[interval]);
+            interval += 1;
+            let next = midnight + fences.get(interval).copied().unwrap_or(DAY);
+            if end < next {
+                return (spans + speed * (end - tick), speed);
+            }
+            spans += speed * (next - tick);
+            tick = next;
+            if interval == fences.len() {
+                midnight += DAY;
+                interval = 0;
+            }
+        }
+    }
 }
 
 /// The arrival at a tick after this interval of the day that starts at this midnight, or

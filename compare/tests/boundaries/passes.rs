@@ -176,7 +176,7 @@ fn the_last_departure() {
 }
 
 /// Three junctions and these arcs, in metres and ticks.
-fn triangle(arcs: &[(u16, u16, u32)]) -> OwnedNetwork {
+pub fn triangle(arcs: &[(u16, u16, u32)]) -> OwnedNetwork {
     let lengths: Vec<u32> = arcs.iter().map(|arc| arc.2).collect();
     OwnedNetwork {
         junctions: 3,

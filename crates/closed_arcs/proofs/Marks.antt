@@ -1,15 +1,16 @@
--- Marks: row by row each record's arc is marked, and a mark stays. An arc without a mark is closed at no tick, so that its plan alone decides.
-use Prim.Native.Nat.{ℕ, _+_, _<_, _≤_}
+-- Marks: row by row each record is in the part of its arc, and stays in it. An arc without a part is closed at no tick, so that its plan alone decides; and
+-- the records of its part close the ticks that the whole list closes.
+use Prim.Native.Nat.{ℕ, zero, suc, _+_, _-_, _<_, _≤_}
 use mathlib.Core.Path.{_≡_, refl, sym, ap, _∙_}
-use mathlib.Core.Bool.{Bool, true, false, cond, true≢false}
+use mathlib.Core.Bool.{Bool, true, false, cond}
 use mathlib.Core.List.{List, [], _∷_}
-use mathlib.Core.Logic.{⊎-elim}
+use mathlib.Core.Logic.{⊎-elim, by-cases}
 use native.Mathlib.Decide.{ℕ-discrete}
-use native.Mathlib.Nat.{eq-or-lt-of-le}
 use native.Mathlib.Omega.{arith}
-use lib.ListN.{length, getD, set, length-map, length-set, List·getD-map}
-use lib.Seq.{getD-set-same, getD-set-other}
-use Rattle.model.specs.Closures.{closureOf, closuresOf, closed?, withClosures}
+use lib.Dec.{eqb}
+use lib.ListN.{length, getD, set, replicate, take, drop, length-map, length-set, length-take, length-drop, length-replicate, List·getD-map}
+use lib.Seq.{getD-set-same, getD-set-other, getD-take, getD-drop}
+use Rattle.model.specs.Closures.{maxClosures, noClosure, closureOf, closuresOf, closed?, Closed, withClosures}
 use Rattle.model.specs.Limits.{maxArcs}
 use Rattle.model.specs.Flow.{spansOf}
 use Rattle.model.specs.Holds.{arrivalWithHold}
@@ -17,62 +18,174 @@ use Rattle.model.specs.Intervals.{speedAt}
 use Rattle.model.specs.Network.{Roads, arcSpeeds, speedOn, driveOf}
 use Rattle.model.specs.declared.closure.Closure.{Closure}
 use Rattle.model.proofs.Closures.{closed-when-tested}
+use Rattle.model.proofs.Entries.{getD-all}
 use Rattle.model.proofs.Holds.{same-arrival}
-use Rattle.closed_arcs.specs.Marks.{Marked}
+use Rattle.model.proofs.Tests.{eqb-cases}
+use Rattle.closed_arcs.specs.Marks.{startOf, endOf, markOf, noMark, unmarked, extended, Marked}
 
 -- the arc of row k
 abbrev arcAt : List (List ℕ) → ℕ → ℕ
 arcAt rows k = getD (getD rows k []) 0 0
 
-before-or-same : (i k : ℕ) → i < k + 1 → (i ≡ k → ⊥) → i < k
-before-or-same i k h other = ⊎-elim (λ same. absurd (other (omega arith))) (λ less. omega arith) (eq-or-lt-of-le h)
-
--- The first k rows' arcs are marked.
-pub record MarkedSoFar (rows : List (List ℕ)) (k : ℕ) (marks : List Bool) : Type 0 where
+-- The first k rows are in the parts of their arcs.
+pub record MarkedSoFar (rows : List (List ℕ)) (k : ℕ) (marks : List (List ℕ)) : Type 0 where
   pub long : length marks ≡ maxArcs
-  pub marked : (i : ℕ) → i < k → arcAt rows i < maxArcs → getD marks (arcAt rows i) false ≡ true
+  pub in-order : (a : ℕ) → startOf (markOf marks a) ≤ endOf (markOf marks a)
+  pub so-far : (a : ℕ) → endOf (markOf marks a) ≤ k
+  pub in-part : (i : ℕ) → i < k → arcAt rows i < maxArcs → (startOf (markOf marks (arcAt rows i)) ≤ i) × (i < endOf (markOf marks (arcAt rows i)))
+  pub in-list : k ≤ length rows
+  pub in-bytes : k ≤ maxClosures
 
-pub none-marked : (rows : List (List ℕ)) (marks : List Bool) → length marks ≡ maxArcs → MarkedSoFar rows 0 marks
-none-marked rows marks long = record { long = long; marked = λ i h. absurd (omega arith) }
+-- ---- No marks
 
--- A mark stays, and one more is set.
-pub one-marked : (rows : List (List ℕ)) (k : ℕ) (marks : List Bool) → MarkedSoFar rows k marks → arcAt rows k < maxArcs →
-    MarkedSoFar rows (k + 1) (set marks (arcAt rows k) true)
-one-marked rows k marks so-far known = record {
-  long = length-set marks (arcAt rows k) true ∙ so-far .long;
-  marked = λ i h few. go i h few (ℕ-discrete (arcAt rows i) (arcAt rows k));
-}
-  where
-    earlier : (i : ℕ) → i < k + 1 → (arcAt rows i ≡ arcAt rows k → ⊥) → i < k
-    earlier i h other = before-or-same i k h (λ same. other (ap (arcAt rows) same))
+no-part : (n a i : ℕ) → getD (getD (replicate n noMark) a []) i 0 ≡ 0
+no-part zero a i = refl
+no-part (suc n) zero i = getD-all 2 0 i
+no-part (suc n) (suc a) i = no-part n a i
 
-    go : (i : ℕ) → i < k + 1 → arcAt rows i < maxArcs → Dec (arcAt rows i ≡ arcAt rows k) → getD (set marks (arcAt rows k) true) (arcAt rows i) false ≡ true
-    go i h few (yes same) = rw same (getD-set-same marks (arcAt rows k) true false (omega (arith, so-far .long)))
-    go i h few (no other) = getD-set-other marks (arcAt rows k) (arcAt rows i) true false other ∙ so-far .marked i (earlier i h other) few
-
--- An arc that no network has needs no mark.
-pub none-known : (rows : List (List ℕ)) (k : ℕ) (marks : List Bool) → MarkedSoFar rows k marks → maxArcs ≤ arcAt rows k → MarkedSoFar rows (k + 1) marks
-none-known rows k marks so-far unknown = record {
-  long = so-far .long;
-  marked = λ i h few. so-far .marked i (before-or-same i k h (λ same. omega (arith, ap (arcAt rows) same))) few;
+pub none-marked : (rows marks : List (List ℕ)) → marks ≡ unmarked → MarkedSoFar rows 0 marks
+none-marked rows marks none = rw none record {
+  long = length-replicate maxArcs noMark;
+  in-order = λ a. omega (arith, no-part maxArcs a 0, no-part maxArcs a 1);
+  so-far = λ a. omega (arith, no-part maxArcs a 1);
+  in-part = λ i h. absurd (omega arith);
+  in-list = omega arith;
+  in-bytes = omega arith;
 }
 
-pub all-marked : (rows : List (List ℕ)) (k : ℕ) (marks : List Bool) → MarkedSoFar rows k marks → length rows ≤ k → Marked (closuresOf rows) marks
-all-marked rows k marks so-far all i inside few =
-    let at = ap (λ (c : Closure). c .arc) (List·getD-map closureOf rows i []) in
-    rw at (so-far .marked i (omega (arith, length-map rows closureOf)) (omega (arith, at)))
+-- ---- A mark more
 
--- An arc without a mark is closed at no tick.
-pub unmarked-open : (closures : List Closure) (marks : List Bool) → Marked closures marks → (a : ℕ) → a < maxArcs →
-    getD marks a false ≡ false → (t : ℕ) → closed? closures a t ≡ false
-unmarked-open closures marks marked a few none t = go (closed? closures a t) refl
-  where
-    go : (closed : Bool) → closed? closures a t ≡ closed → closed ≡ false
-    go true e =
-        let (k, inside, closes) = closed-when-tested closures a t .0 e in
-        let its = closes .its-arc in
-        absurd (true≢false (sym (rw its at (marked k inside (omega (arith, its)))) ∙ none))
-    go false e = refl
+module _ (mark : List ℕ) (k : ℕ) where
+  extended-end : endOf (extended mark k) ≡ k + 1
+  extended-end = go (eqb (endOf mark) 0)
+    where
+      go : (b : Bool) → endOf (cond b (k ∷ (k + 1) ∷ []) (startOf mark ∷ (k + 1) ∷ [])) ≡ k + 1
+      go true = refl
+      go false = refl
+
+  extended-start : startOf mark ≤ endOf mark → endOf mark ≤ k → startOf (extended mark k) ≤ k
+  extended-start in-order so-far =
+      ⊎-elim (λ w. rw (w .0) (omega arith)) (λ w. rw (w .0) (omega arith)) (eqb-cases (endOf mark) 0)
+
+  extended-keeps : (i : ℕ) → startOf mark ≤ i → i < endOf mark → startOf (extended mark k) ≤ i
+  extended-keeps i from to =
+      ⊎-elim (λ w. absurd (omega (arith, w .1))) (λ w. rw (w .0) from) (eqb-cases (endOf mark) 0)
+
+module _ (rows : List (List ℕ)) (k : ℕ) (marks : List (List ℕ)) (before : MarkedSoFar rows k marks) (here : k < length rows) (fits : k < maxClosures) where
+  -- Its arc's part goes on up to it, and the others stay.
+  module _ (known : arcAt rows k < maxArcs) where
+    abbrev mark : List ℕ
+    mark = extended (markOf marks (arcAt rows k)) k
+
+    same-arc : markOf (set marks (arcAt rows k) mark) (arcAt rows k) ≡ mark
+    same-arc = getD-set-same marks (arcAt rows k) mark [] (omega (arith, before .long))
+
+    other-arc : (a : ℕ) → (a ≡ arcAt rows k → ⊥) → markOf (set marks (arcAt rows k) mark) a ≡ markOf marks a
+    other-arc a other = getD-set-other marks (arcAt rows k) a mark [] other
+
+    its-start : startOf mark ≤ k
+    its-start = extended-start (markOf marks (arcAt rows k)) k (before .in-order (arcAt rows k)) (before .so-far (arcAt rows k))
+
+    earlier : (i : ℕ) → i < k + 1 → (i ≡ k → ⊥) → i < k
+    earlier i h other = omega (arith, other)
+
+    pub one-marked : MarkedSoFar rows (k + 1) (set marks (arcAt rows k) mark)
+    one-marked = record {
+      long = length-set marks (arcAt rows k) mark ∙ before .long;
+      in-order = λ a. by-cases (ℕ-discrete a (arcAt rows k))
+          (λ same. rw (same, same-arc) (omega (arith, its-start, extended-end (markOf marks (arcAt rows k)) k))) (λ other. rw (other-arc a other) (before .in-order a));
+      so-far = λ a. by-cases (ℕ-discrete a (arcAt rows k))
+          (λ same. rw (same, same-arc) (omega (arith, extended-end (markOf marks (arcAt rows k)) k))) (λ other. rw (other-arc a other) (omega (arith, before .so-far a)));
+      in-part = λ i h few. by-cases (ℕ-discrete (arcAt rows i) (arcAt rows k))
+          (λ same. rw (same, same-arc) (by-cases (ℕ-discrete i k)
+          (λ last. (omega (arith, its-start), omega (arith, extended-end (markOf marks (arcAt rows k)) k)))
+          (λ first. let (from, to) = rw same at (before .in-part i (earlier i h first) few) in
+          (extended-keeps (markOf marks (arcAt rows k)) k i from to, omega (arith, extended-end (markOf marks (arcAt rows k)) k)))))
+          (λ other. rw (other-arc (arcAt rows i) other) (before .in-part i (earlier i h (λ last. other (ap (arcAt rows) last))) few));
+      in-list = omega arith;
+      in-bytes = omega arith;
+    }
+
+  -- An arc that no network has needs no mark.
+  pub none-known : maxArcs ≤ arcAt rows k → MarkedSoFar rows (k + 1) marks
+  none-known unknown = record {
+    long = before .long;
+    in-order = before .in-order;
+    so-far = λ a. omega (arith, before .so-far a);
+    in-part = λ i h few. by-cases (ℕ-discrete i k) (λ last. absurd (omega (arith, unknown, few, ap (arcAt rows) last))) (λ first. before .in-part i (omega (arith, first)) few);
+    in-list = omega arith;
+    in-bytes = omega arith;
+  }
+
+pub all-marked : (rows : List (List ℕ)) (k : ℕ) (marks : List (List ℕ)) → MarkedSoFar rows k marks → (length rows ≤ maxClosures → length rows ≤ k) → Marked (closuresOf rows) marks
+all-marked rows k marks so-far all =
+    let as-many = length-map rows closureOf in
+    record {
+      in-order = so-far .in-order;
+      in-list = λ a. omega (arith, so-far .so-far a, so-far .in-list, as-many);
+      in-bytes = λ a. omega (arith, so-far .so-far a, so-far .in-bytes);
+      in-part = λ few i inside known.
+          let at = ap (λ (c : Closure). c .arc) (List·getD-map closureOf rows i []) in
+          rw at (so-far .in-part i (omega (arith, as-many, all (omega (arith, as-many, few)))) (omega (arith, at, known)));
+    }
+
+-- ---- What the marks tell
+
+-- An arc's part lies in the list.
+pub part-inside : (rows : List (List ℕ)) {marks : List (List ℕ)} → Marked (closuresOf rows) marks → (a : ℕ) →
+    (startOf (markOf marks a) ≤ endOf (markOf marks a)) × (endOf (markOf marks a) ≤ length rows) × (endOf (markOf marks a) ≤ maxClosures)
+part-inside rows marked a = (marked .in-order a, omega (arith, marked .in-list a, length-map rows closureOf), marked .in-bytes a)
+
+same-truth : (a b : Bool) → (a ≡ true → b ≡ true) → (b ≡ true → a ≡ true) → a ≡ b
+same-truth true b to from = sym (to refl)
+same-truth false true to from = from refl
+same-truth false false to from = refl
+
+module _ (rows : List (List ℕ)) (marks : List (List ℕ)) (marked : Marked (closuresOf rows) marks) (few : length (closuresOf rows) ≤ maxClosures) (a : ℕ) (is-arc : a < maxArcs) where
+  -- An arc without a part is closed at no tick.
+  pub unmarked-open : endOf (markOf marks a) ≡ 0 → (t : ℕ) → closed? (closuresOf rows) a t ≡ false
+  unmarked-open none t = go (closed? (closuresOf rows) a t) refl
+    where
+      go : (closed : Bool) → closed? (closuresOf rows) a t ≡ closed → closed ≡ false
+      go true e =
+          let (k, inside, closes) = closed-when-tested (closuresOf rows) a t .0 e in
+          let its = closes .its-arc in
+          absurd (omega (arith, none, (rw its at (marked .in-part few k inside (omega (arith, its)))) .1))
+      go false e = refl
+
+  abbrev part : List (List ℕ)
+  part = take (endOf (markOf marks a) - startOf (markOf marks a)) (drop (startOf (markOf marks a)) rows)
+
+  part-length : length part ≡ endOf (markOf marks a) - startOf (markOf marks a)
+  part-length = simp (length-take, length-drop) (omega (arith, marked .in-list a, length-map rows closureOf))
+
+  entry : (k : ℕ) → k < endOf (markOf marks a) - startOf (markOf marks a) →
+      getD (closuresOf part) k noClosure ≡ getD (closuresOf rows) (startOf (markOf marks a) + k) noClosure
+  entry k within =
+      List·getD-map closureOf part k []
+      ∙ (ap closureOf (getD-take _ (drop (startOf (markOf marks a)) rows) k [] within ∙ getD-drop (startOf (markOf marks a)) rows k [])
+      ∙ sym (List·getD-map closureOf rows (startOf (markOf marks a) + k) []))
+
+  -- The records of its part close what the list closes.
+  pub part-closes : (t : ℕ) → closed? (closuresOf part) a t ≡ closed? (closuresOf rows) a t
+  part-closes t = same-truth _ _ (λ e. closed-when-tested (closuresOf rows) a t .1 (from-part (closed-when-tested (closuresOf part) a t .0 e)))
+      (λ e. closed-when-tested (closuresOf part) a t .1 (from-list (closed-when-tested (closuresOf rows) a t .0 e)))
+    where
+      from-part : Closed (closuresOf part) a t → Closed (closuresOf rows) a t
+      from-part (k, inside, closes) =
+          let at = startOf (markOf marks a) + k in
+          let is : getD (closuresOf part) k noClosure ≡ getD (closuresOf rows) at noClosure = entry k (omega (arith, inside, length-map part closureOf, part-length)) in
+          (at, omega (arith, inside, length-map part closureOf, part-length, marked .in-order a, marked .in-list a), rw is at closes)
+
+      from-list : Closed (closuresOf rows) a t → Closed (closuresOf part) a t
+      from-list (k, inside, closes) =
+          let its = closes .its-arc in
+          let (from, to) = rw its at (marked .in-part few k inside (omega (arith, its, is-arc))) in
+          let at = k - startOf (markOf marks a) in
+          let there : startOf (markOf marks a) + at ≡ k = omega (arith, from) in
+          let within : at < endOf (markOf marks a) - startOf (markOf marks a) = omega (arith, from, to) in
+          let is : getD (closuresOf part) at noClosure ≡ getD (closuresOf rows) (startOf (markOf marks a) + at) noClosure = entry at within in
+          (at, omega (arith, within, length-map part closureOf, part-length), rw (is, there) closes)
 
 -- Nor is one where there are no records.
 pub none-open : (rows : List (List ℕ)) → length rows ≡ 0 → (a t : ℕ) → closed? (closuresOf rows) a t ≡ false
@@ -86,3 +199,10 @@ pub open-drive : (R : Roads) (a : ℕ) → ((t : ℕ) → closed? (R .closures) 
 unfolding driveOf speedOn withClosures
 open-drive R a is-open t =
     same-arrival _ _ _ _ t (λ u. sym (ap (λ closed. cond closed 0 (speedAt (R .fences) (arcSpeeds R a) u)) (is-open u)))
+
+-- And on any other the records of its part decide it.
+pub part-drive : (R : Roads) (a : ℕ) (closures : List Closure) → ((t : ℕ) → closed? closures a t ≡ closed? (R .closures) a t) → (t : ℕ) →
+    arrivalWithHold (withClosures closures a (speedAt (R .fences) (arcSpeeds R a))) (spansOf (getD (R .lengths) a 0)) (getD (R .holds) a 0) t ≡ driveOf R a t
+unfolding driveOf speedOn withClosures
+part-drive R a closures same t =
+    same-arrival _ _ _ _ t (λ u. ap (λ closed. cond closed 0 (speedAt (R .fences) (arcSpeeds R a) u)) (same u))

@@ -28,7 +28,7 @@ never-from-last-on R a tick some late in-time =
     ⊎-elim (λ by. absurd (omega (arith, by, later))) (λ is. is) (drive-by-last R a tick)
 
 pub none-arrives : (R : Roads) (tick interval : ℕ) → (length (R .fences) ≤ interval) ⊎ (last ≤ tick) → (a : ℕ) → ArrivesOn R a tick interval none
-none-arrives R tick interval out a kept =
+none-arrives R tick interval out a few kept =
     ⊎-elim
     (λ outside. absurd (omega (arith, outside, kept-inside kept)))
     (λ late. rw (never-from-last-on R a tick (kept .some-length) late (kept .in-time)) (told-none (R .fences) never (omega arith)))

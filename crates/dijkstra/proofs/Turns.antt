@@ -246,7 +246,7 @@ module _ {N : Network} {source departure : ℕ} (q : Taken N source departure) w
 
     arrives-on : {arrived : Option (ℕ × ℕ)} → ArrivesOn (roadsOf N) a tick interval arrived →
         arrived ≡ tickAndInterval? (N .fences) arrives-at
-    arrives-on on = on (arc-kept N (q .accepted) tick interval a (turn .settling .in-time) (turn .interval-is) (at .0))
+    arrives-on on = on (q .closures-kept .at-most) (arc-kept N (q .accepted) tick interval a (turn .settling .in-time) (turn .interval-is) (at .0))
 
     turn-misses : ArrivesOn (roadsOf N) a tick interval Option.none → Turn N source departure settled junction tick interval (getD next a 0) t
     turn-misses on = record {

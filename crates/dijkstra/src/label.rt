@@ -52,8 +52,8 @@ fn label_all(
     let mut first = [NO_ARC; MAX_JUNCTIONS];
     let mut next = [NO_ARC; MAX_ARCS];
     link_arcs(tails, &mut first, &mut next);
-    let mut closed = [false; MAX_ARCS];
-    mark_closed(closures, &mut closed);
+    let mut marks = [[0u8; 2]; MAX_ARCS];
+    mark_closed(closures, &mut marks);
     let mut settled = [false; MAX_JUNCTIONS];
     let mut tree = [UNREACHED; NODES];
     enter(&mut tree, source, key_of(departure, source));
@@ -73,7 +73,7 @@ fn label_all(
             holds,
             speeds,
             closures,
-            &closed,
+            &marks,
             &first,
             &next,
             &mut settled,

@@ -58,10 +58,10 @@ fn drive_arc(
     holds: &[u16],
     speeds: &[u8],
     closures: &[[u32; 4]],
-    closed: &[bool; MAX_ARCS],
+    marks: &[[u8; 2]; MAX_ARCS],
 ) -> Arrival
     requires { ⌜ HasArc (roadsIn fences lengths holds speeds (closuresIn closures)) arc ⌝ }
-    requires { ⌜ Marked (closuresIn closures) (now closed) ⌝ }
+    requires { ⌜ Marked (closuresIn closures) (now marks) ⌝ }
     ensures { λ r. ⌜ ArrivesOn (lentRoads fences lengths holds speeds (lentClosures closures)) arc tick interval (arrivedAt r) ⌝ }
     ensures { λ r. ⌜ InPlan (now (fences .entry)) r ⌝ }
 {
@@ -71,7 +71,9 @@ fn drive_arc(
     let hold = holds[arc] as u32;
     // Asked first, so that nothing of the closures is left where a caller never has any.
     if closures.len() != 0 {
-        if closed[arc] {
+        let mark = marks[arc];
+        let end = mark[1] as usize;
+        if end != 0 {
             return drive_closed_with_hold(
                 tick,
                 interval,
@@ -80,7 +82,7 @@ fn drive_arc(
                 fences,
                 &speeds[from..to],
                 arc as u32,
-                closures,
+                &closures[mark[0] as usize..end],
             );
         }
     }
@@ -98,7 +100,7 @@ fn offer_arc(
     holds: &[u16],
     speeds: &[u8],
     closures: &[[u32; 4]],
-    closed: &[bool; MAX_ARCS],
+    marks: &[[u8; 2]; MAX_ARCS],
     labels: &mut [u32],
     predecessors: &mut [u16],
     intervals: &mut [u8; MAX_JUNCTIONS],
@@ -106,7 +108,7 @@ fn offer_arc(
 )
     requires { ⌜ HasArc (roadsIn fences lengths holds speeds (closuresIn closures)) a ⌝ }
     requires { ⌜ Offerable head (tables (now labels) (now predecessors) (now intervals) (now tree)) ⌝ }
-    requires { ⌜ Marked (closuresIn closures) (now closed) ⌝ }
+    requires { ⌜ Marked (closuresIn closures) (now marks) ⌝ }
     ensures { λ _. ⌜ ArcOffered (lentRoads fences lengths holds speeds (lentClosures closures)) a head tick interval
         (tables (now (labels .entry)) (now (predecessors .entry)) (now (intervals .entry)) (now (tree .entry)))
         (tables (now (labels .exit)) (now (predecessors .exit)) (now (intervals .exit)) (now (tree .exit))) ⌝ }
@@ -124,7 +126,7 @@ fn offer_arc(
         holds,
         speeds,
         closures,
-        closed,
+        marks,
     ) {
         // A byte holds every interval of a plan.
         let noted = arrives_in as u8;
@@ -152,7 +154,7 @@ pub(crate) fn offer_arcs(
     holds: &[u16],
     speeds: &[u8],
     closures: &[[u32; 4]],
-    closed: &[bool; MAX_ARCS],
+    marks: &[[u8; 2]; MAX_ARCS],
     next: &[u16; MAX_ARCS],
     settled: &[bool; MAX_JUNCTIONS],
     labels: &mut [u32],
@@ -162,7 +164,7 @@ pub(crate) fn offer_arcs(
 )
     requires { ⌜ Drivable (roadsIn fences lengths holds speeds (closuresIn closures)) (now heads) (now next) first
         (tables (now labels) (now predecessors) (now intervals) (now tree)) ⌝ }
-    requires { ⌜ Marked (closuresIn closures) (now closed) ⌝ }
+    requires { ⌜ Marked (closuresIn closures) (now marks) ⌝ }
     ensures { λ _. ⌜ AllOffered (lentRoads fences lengths holds speeds (lentClosures closures)) (now (heads .entry)) (now (next .entry)) (now (settled .entry)) tick interval first
         (tables (now (labels .entry)) (now (predecessors .entry)) (now (intervals .entry)) (now (tree .entry)))
         (tables (now (labels .exit)) (now (predecessors .exit)) (now (intervals .exit)) (now (tree .exit))) ⌝ }
@@ -191,7 +193,7 @@ pub(crate) fn offer_arcs(
                 holds,
                 speeds,
                 closures,
-                closed,
+                marks,
                 labels,
                 predecessors,
                 intervals,

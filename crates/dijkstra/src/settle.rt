@@ -19,7 +19,7 @@ pub(crate) fn settle(
     holds: &[u16],
     speeds: &[u8],
     closures: &[[u32; 4]],
-    closed: &[bool; MAX_ARCS],
+    marks: &[[u8; 2]; MAX_ARCS],
     first: &[u16; MAX_JUNCTIONS],
     next: &[u16; MAX_ARCS],
     settled: &mut [bool; MAX_JUNCTIONS],
@@ -30,7 +30,7 @@ pub(crate) fn settle(
 )
     requires { ⌜ Settleable (roadsIn fences lengths holds speeds (closuresIn closures)) (now heads) (now first) (now next) junction
         (tables (now labels) (now predecessors) (now intervals) (now tree)) ⌝ }
-    requires { ⌜ Marked (closuresIn closures) (now closed) ⌝ }
+    requires { ⌜ Marked (closuresIn closures) (now marks) ⌝ }
     ensures { λ _. ⌜ Settles (lentRoads fences lengths holds speeds (lentClosures closures)) (now (heads .entry)) (now (first .entry)) (now (next .entry)) junction
         (now (settled .entry)) (now (settled .exit))
         (tables (now (labels .entry)) (now (predecessors .entry)) (now (intervals .entry)) (now (tree .entry)))
@@ -48,7 +48,7 @@ pub(crate) fn settle(
         holds,
         speeds,
         closures,
-        closed,
+        marks,
         next,
         settled,
         labels,

@@ -7,7 +7,7 @@ ghost use Rattle.model.specs.Intervals.{timeOfDay, passed, intervalOf, interval
 use model::tick::Tick;
 
 // A tick's remainder by the day. A tick of the first day is its own remainder, which saves the division.
-pub(crate) fn time_of_day(tick: u32) -> u32
+pub fn time_of_day(tick: u32) -> u32
     ensures { λ r. ⌜ r ≡ timeOfDay tick ⌝ }
 {
     if tick < Tick::DAY {

@@ -1,5 +1,6 @@
 -- The number that each function for C answers, from what its operation comes to.
 use Prim.Native.Nat.{ℕ, _+_, _*_, _^_}
+use mathlib.Core.Bool.{Bool, true, false}
 use mathlib.Core.Option.{Option, none, some}
 use Rattle.refusals.specs.Refusals.{refusalBase}
 use Rattle.model.specs.Rules.{Outcome, refused, replied}
@@ -22,6 +23,12 @@ arrivalCode (replied none) = 2 ^ 62
 abbrev pub countCode : Outcome ℕ → ℕ
 countCode (refused number) = refusalBase + number
 countCode (replied count) = count
+
+-- The check of sent tables: the refusal's code, or 1 for yes and 0 for no.
+abbrev pub yesCode : Outcome Bool → ℕ
+yesCode (refused number) = refusalBase + number
+yesCode (replied true) = 1
+yesCode (replied false) = 0
 
 -- Load: the counts, each from a bit of its own on, or 2^63 with the refusal's number and line.
 abbrev pub loadCode : Reading Counts → ℕ

@@ -5,4 +5,5 @@ mod bit;
 pub mod network;
 pub mod passes;
 pub mod question;
+pub mod tables_check;
 pub mod text;

@@ -72,7 +72,7 @@ module _ {N : Net} (sound : Sound N) {source departure : ℕ} (departs : departu
           let sooner : getD labels (N .tail a) never < getD labels j never = attaining-sooner sound at in
           attaining-walk sound at (before (N .tail a) (omega arith) (sound .tail-below a (at .is-arc)) λ none. omega arith)
 
-  certified-earliest : Earliest N source departure (λ j. getD labels j never)
+  pub certified-earliest : Earliest N source departure (λ j. getD labels j never)
   certified-earliest =
       are-earliest sound departs (λ j is-junction reached. attained-within _ j (le-refl _) is-junction reached)
       (λ j t w. unlowered-no-sooner sound (λ i. getD labels i never) (omega arith) (certified .no-lower) w)

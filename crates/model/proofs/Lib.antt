@@ -25,6 +25,7 @@ pub mod Repeating
 pub mod Routes
 pub mod Rules
 pub mod SameDrives
+pub mod SentTables
 pub mod Tests
 pub mod Trails
 pub mod Walks

@@ -2,24 +2,21 @@
 -- pass fewer than there are junctions they are the labels, and the next pass changes none. The search finds the first such pass.
 use Prim.Native.Nat.{ℕ, zero, suc, _+_, _-_, _≤_, _<_}
 use mathlib.Core.Path.{_≡_, refl, sym, ap, _∙_}
-use mathlib.Core.Bool.{Bool, true, false, cond, true≢false, and-eq-true-iff}
-use mathlib.Core.List.{List, [], _∷_}
+use mathlib.Core.Bool.{Bool, true, false, cond, true≢false}
+use mathlib.Core.List.{List}
 use mathlib.Core.Logic.{⊎-elim, by-cases}
 use native.Mathlib.Decide.{ℕ-discrete, decLt}
 use native.Mathlib.Nat.{le-antisymm, zero-add, suc-add}
 use native.Mathlib.Omega.{arith}
-use lib.Dec.{eqb}
 use lib.ListN.{length, getD}
 use lib.Seq.{ext-getD}
-use borrow.Author.Tests.{eqb-true, eq-eqb}
 use Rattle.model.specs.Ticks.{last, never}
 use Rattle.model.specs.Walks.{Net, Sound, Arrives}
-use Rattle.model.specs.Labels.{offer, offers, within, labelsOf}
+use Rattle.model.specs.Labels.{offer, offers, within, labelsOf, same?}
 use Rattle.model.specs.Passes.{
   passOver,
   pass,
   afterPasses,
-  same?,
   firstUnchanged,
   passesOf,
   Unchanged,
@@ -28,25 +25,10 @@ use Rattle.model.specs.Passes.{
   PassesAtMostJunctions,
   PassesLeaveLabels,
 }
+use Rattle.model.proofs.Entries.{same-tables, same-itself}
 use Rattle.model.proofs.Walks.{are-earliest, earliest-unique, visited, Simple, shorten, simple-length}
 use Rattle.model.proofs.Within.{offered, offer-length, offer-entry, offer-no-rise, offer-at-most, within-no-sooner, Attained, offer-attained, first-attained, within-length}
 use Rattle.model.proofs.Least.{labels-length, labels-are-earliest}
-
--- ---- Tables that are the same
-
-same-tables : (xs ys : List ℕ) → same? xs ys ≡ true → xs ≡ ys
-unfolding same?
-same-tables [] [] e = refl
-same-tables [] (y ∷ ys) e = absurd (true≢false (sym e))
-same-tables (x ∷ xs) [] e = absurd (true≢false (sym e))
-same-tables (x ∷ xs) (y ∷ ys) e =
-    let tests = and-eq-true-iff (eqb x y) (same? xs ys) .0 e in
-    rw (eqb-true x y (tests .0), same-tables xs ys (tests .1))
-
-same-itself : (xs : List ℕ) → same? xs xs ≡ true
-unfolding same?
-same-itself [] = refl
-same-itself (x ∷ xs) = rw (eq-eqb x x refl) (same-itself xs)
 
 -- ---- No entry is later
 

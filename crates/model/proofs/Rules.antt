@@ -11,7 +11,7 @@ use borrow.Author.Tests.{not-false, ltb-true, leb-true, eqb-true, lt-ltb, le-leb
 use Rattle.model.specs.Ticks.{day}
 use Rattle.model.specs.Limits.{maxIntervals, maxLength}
 use Rattle.model.specs.Intervals.{FencesKept}
-use Rattle.model.specs.Rules.{Outcome, refused, replied, Rule, _if_, firstBroken, AllKept, RefusedExactlyWhen, every, riseFrom, countKeeps, fencesKeep, lengthKeeps}
+use Rattle.model.specs.Rules.{Outcome, refused, replied, replying, Rule, _if_, firstBroken, AllKept, RefusedExactlyWhen, every, riseFrom, countKeeps, fencesKeep, lengthKeeps}
 
 -- ---- Which rule counts
 
@@ -85,6 +85,16 @@ pub kept-before : {Reply : Type 0} (rules more : List Rule) (reply : Reply) → 
 unfolding firstBroken
 kept-before [] more reply kept = refl
 kept-before (rule ∷ rules) more reply kept = rw (kept .0) (kept-before rules more reply (kept .1))
+
+-- With another reply an operation refuses as before.
+pub replying-refused : {Reply Reply′ : Type 0} (outcome : Outcome Reply) (reply : Reply′) {number : ℕ} → replying outcome reply ≡ refused number → outcome ≡ refused number
+replying-refused (refused n) reply e = cc e
+replying-refused (replied own) reply e = let none : _≡_ {A = ℕ} 0 1 = cc e in absurd (omega arith)
+
+pub replying-replied : {Reply′ : Type 0} (outcome : Outcome (Unit {0})) (reply : Reply′) {reply′ : Reply′} → replying outcome reply ≡ replied reply′ →
+    (outcome ≡ replied tt) × (reply ≡ reply′)
+replying-replied (refused n) reply e = let none : _≡_ {A = ℕ} 0 1 = cc e in absurd (omega arith)
+replying-replied (replied own) reply e = (refl, cc e)
 
 pub kept-append : (rules more : List Rule) → AllKept (rules ++ more) → AllKept rules × AllKept more
 kept-append [] more kept = (tt, kept)

@@ -1,7 +1,7 @@
 -- The labels and the predecessors of a net, as lists by junction.
 use Prim.Native.Nat.{ℕ, zero, suc, _≤_, _<_, min}
 use mathlib.Core.Path.{_≡_}
-use mathlib.Core.Bool.{Bool, _&&_, _||_, cond}
+use mathlib.Core.Bool.{Bool, true, false, _&&_, _||_, cond}
 use mathlib.Core.List.{List, [], _∷_}
 use mathlib.Core.Logic.{_⊎_, _↔_}
 use lib.Dec.{eqb}
@@ -52,6 +52,13 @@ tabulate f j (suc k) = f j ∷ tabulate f (suc j) k
 
 unfoldable pub predecessorsOf : Net → ℕ → ℕ → List ℕ
 predecessorsOf N source departure = tabulate (predecessorOf N source (labelsOf N source departure)) 0 (N .junctions)
+
+-- Whether two tables have the same entries.
+unfoldable pub same? : List ℕ → List ℕ → Bool
+same? [] [] = true
+same? [] (label ∷ labels) = false
+same? (label ∷ labels) [] = false
+same? (label ∷ labels) (label′ ∷ labels′) = eqb label label′ && same? labels labels′
 
 -- ---- The conditions that make two tables the labels and the predecessors, without a search
 

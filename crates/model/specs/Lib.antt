@@ -12,5 +12,6 @@ pub mod Parties
 pub mod Passes
 pub mod Routes
 pub mod Rules
+pub mod SentTables
 pub mod Ticks
 pub mod Walks

@@ -1,14 +1,13 @@
 -- Document 02, order 9: the reckoning "by repeated passes over all arcs, lowering labels until a pass changes none".
 use Prim.Native.Nat.{ℕ, zero, suc, _-_, _≤_, _<_}
 use mathlib.Core.Path.{_≡_}
-use mathlib.Core.Bool.{Bool, true, false, _&&_, cond}
-use mathlib.Core.List.{List, [], _∷_}
+use mathlib.Core.Bool.{cond}
+use mathlib.Core.List.{List}
 use mathlib.Core.Logic.{_↔_}
-use lib.Dec.{eqb}
 use lib.ListN.{set, replicate}
 use Rattle.model.specs.Ticks.{last, never}
 use Rattle.model.specs.Walks.{Net, Sound}
-use Rattle.model.specs.Labels.{offer, labelsOf}
+use Rattle.model.specs.Labels.{offer, labelsOf, same?}
 
 -- "A pass goes through the arcs by number from 0, and a lowered label counts at once for the arcs after it": the labels after its first arcs, of
 -- which each is left at its tail's label as the arcs before it leave it.
@@ -28,13 +27,6 @@ atStart N source departure = set (replicate (N .junctions) never) source departu
 unfoldable pub afterPasses : Net → ℕ → ℕ → ℕ → List ℕ
 afterPasses N source departure zero = atStart N source departure
 afterPasses N source departure (suc n) = pass N (afterPasses N source departure n)
-
--- Whether two tables have the same entries.
-unfoldable pub same? : List ℕ → List ℕ → Bool
-same? [] [] = true
-same? [] (label ∷ labels) = false
-same? (label ∷ labels) [] = false
-same? (label ∷ labels) (label′ ∷ labels′) = eqb label label′ && same? labels labels′
 
 -- "The reported number of passes is that of the first pass that changes no label": the first from pass n on, which starts with these labels, and at
 -- most k passes are made. Where none of these is it, the number after them; `PassesAreFirstUnchanged` says that there is always one.

@@ -32,6 +32,11 @@ abbrev pub after : {Reply : Type 0} → Outcome Reply → List ℕ → List ℕ 
 after (refused number) written before = before
 after (replied reply) written before = written
 
+-- One operation's refusal, or another reply in the place of its own.
+abbrev pub replying : {Reply Reply′ : Type 0} → Outcome Reply → Reply′ → Outcome Reply′
+replying (refused number) reply′ = refused number
+replying (replied reply) reply′ = replied reply′
+
 -- The entries at the table's start, and what stood behind them.
 abbrev pub written : List ℕ → List ℕ → List ℕ
 written entries table = entries ++ drop (length entries) table

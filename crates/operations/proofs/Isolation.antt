@@ -65,6 +65,8 @@ isolation N asker first second agree = record {
       (same, rw (same, kept N asker first second agree), rw (same, kept N asker first second agree));
   passes-call = λ source departure labels predecessors.
       rw (labels-same N asker first second agree source departure labels predecessors, kept N asker first second agree);
+  tables-call = λ source departure labels predecessors.
+      rw (labels-same N asker first second agree source departure labels predecessors, kept N asker first second agree);
   route-call = λ source departure destination arcs.
       let same = route-same N asker first second agree source departure destination arcs in
       (same, rw (same, kept N asker first second agree), rw (same, kept N asker first second agree));

@@ -17,6 +17,7 @@ use Rattle.model.proofs.Rules.{refused-before}
 use Rattle.checking.specs.ClosedNetwork.{closedNetworkRules, closedNetworkCheck}
 use Rattle.checking.specs.Question.{startRules, questionRules}
 use Rattle.closures.specs.Rows.{StandFor, all, too-many}
+use Rattle.certifying.specs.TablesCheck.{tablesAnswer}
 use Rattle.labelling.specs.Labels.{labelsAnswer, labelsAfter, predecessorsAfter, bufferRules}
 use Rattle.passing.specs.Passes.{passesAnswer}
 use Rattle.routing.specs.Route.{routeAnswer, routeArrival, arcsAfter, destinationRules, foundRules}
@@ -59,25 +60,34 @@ module _ (N : Network) (asker : ℕ) where
 
 -- ---- The operations
 
--- An operation ends in its answer and two things more, each by the closures. For lists that are too long all three are the same.
+-- What holds for the rows holds for each list that could have been read, for which they stand, if it is the same for all lists that are too long.
+pub answer-alike : {A : Type 0} {answer : List Closure → A} →
+    ((some others : List Closure) → maxClosures < length some → maxClosures < length others → answer some ≡ answer others) →
+    {Read : List Closure → Type 0} {rows : List (List ℕ)} → ((xs : List Closure) → Read xs → StandFor xs rows) → {a : A} → a ≡ answer (closuresOf rows) →
+    (xs : List Closure) → Read xs → a ≡ answer xs
+answer-alike {answer = answer} too-long {rows = rows} stand is xs read = is ∙ go (stand xs read)
+  where
+    go : {ys : List Closure} → StandFor ys rows → answer (closuresOf rows) ≡ answer ys
+    go (all same) = ap answer same
+    go {ys} (too-many many many-rows) = too-long (closuresOf rows) ys (omega (arith, many-rows, length-map rows closureOf)) many
+
+-- An operation that writes ends in its answer and two things more.
 pub record SameTooLong {A B C : Type 0} (answer : List Closure → A) (first : List Closure → B) (second : List Closure → C) : Type 0 where
   pub same : (some others : List Closure) → maxClosures < length some → maxClosures < length others →
       (answer some ≡ answer others) × ((first some ≡ first others) × (second some ≡ second others))
 
--- So what holds for the rows holds for each list that could have been read, for which they stand.
 pub alike : {A B C : Type 0} {answer : List Closure → A} {first : List Closure → B} {second : List Closure → C} → SameTooLong answer first second →
     {Read : List Closure → Type 0} {rows : List (List ℕ)} → ((xs : List Closure) → Read xs → StandFor xs rows) → {a : A} {b : B} {c : C} →
     (a ≡ answer (closuresOf rows)) × ((b ≡ first (closuresOf rows)) × (c ≡ second (closuresOf rows))) →
     ((xs : List Closure) → Read xs → a ≡ answer xs) × (((xs : List Closure) → Read xs → b ≡ first xs) × ((xs : List Closure) → Read xs → c ≡ second xs))
-alike {answer = answer} {first} {second} too-long {rows = rows} stand ends = (
-  (λ xs read. ends .0 ∙ each (stand xs read) .0),
-  ((λ xs read. ends .1 .0 ∙ each (stand xs read) .1 .0), (λ xs read. ends .1 .1 ∙ each (stand xs read) .1 .1)),
-)
-  where
-    each : {xs : List Closure} → StandFor xs rows →
-        (answer (closuresOf rows) ≡ answer xs) × ((first (closuresOf rows) ≡ first xs) × (second (closuresOf rows) ≡ second xs))
-    each (all same) = (ap answer same, (ap first same, ap second same))
-    each {xs} (too-many many many-rows) = too-long .same (closuresOf rows) xs (omega (arith, many-rows, length-map rows closureOf)) many
+alike too-long stand (a-is, (b-is, c-is)) =
+    let same = too-long .same in (
+      answer-alike (λ some others many more. same some others many more .0) stand a-is,
+      (
+        answer-alike (λ some others many more. same some others many more .1 .0) stand b-is,
+        answer-alike (λ some others many more. same some others many more .1 .1) stand c-is,
+      ),
+    )
 
 module _ (N : Network) (asker source departure : ℕ) (labels predecessors : List ℕ) where
   labels-overlong : (closures : List Closure) → maxClosures < length closures → labelsAnswer (closedBy N closures) asker source departure labels predecessors ≡ refused (number N)
@@ -96,6 +106,10 @@ module _ (N : Network) (asker source departure : ℕ) (labels predecessors : Lis
       (λ closures. labelsAfter (closedBy N closures) asker source departure labels predecessors)
       (λ closures. predecessorsAfter (closedBy N closures) asker source departure labels predecessors)
   passes-too-long = record { same = λ some others many more. rw (labels-overlong some many, labels-overlong others more) (refl, (refl, refl)) }
+
+  pub tables-too-long : (some others : List Closure) → maxClosures < length some → maxClosures < length others →
+      tablesAnswer (closedBy N some) asker source departure labels predecessors ≡ tablesAnswer (closedBy N others) asker source departure labels predecessors
+  tables-too-long some others many more = rw (labels-overlong some many, labels-overlong others more) refl
 
 module _ (N : Network) (asker source departure destination : ℕ) (arcs : List ℕ) where
   route-overlong : (closures : List Closure) → maxClosures < length closures → routeAnswer (closedBy N closures) asker source departure destination arcs ≡ refused (number N)

@@ -10,6 +10,7 @@ use Rattle.model.specs.Network.{Network, closedBy, networkFor, arcs, netOf}
 use Rattle.model.specs.Parties.{Stops}
 use Rattle.model.specs.Routes.{routeOf}
 use Rattle.model.specs.declared.closure.Closure.{Closure}
+use Rattle.certifying.specs.TablesCheck.{tablesAnswer}
 use Rattle.labelling.specs.Labels.{labelsAnswer, labelsAfter, predecessorsAfter}
 use Rattle.passing.specs.Passes.{passesAnswer}
 use Rattle.routing.specs.Route.{routeAnswer, routeArrival, arcsAfter}
@@ -45,6 +46,9 @@ pub record SameFor (asker : ℕ) (A B : Network) : Type 0 where
   -- Of Passes its answer; in the buffers it leaves what Labels does.
   pub passes-call : (source departure : ℕ) (labels predecessors : List ℕ) →
       passesAnswer A asker source departure labels predecessors ≡ passesAnswer B asker source departure labels predecessors
+  -- Of the check of sent tables its answer; it writes nothing.
+  pub tables-call : (source departure : ℕ) (labels predecessors : List ℕ) →
+      tablesAnswer A asker source departure labels predecessors ≡ tablesAnswer B asker source departure labels predecessors
   pub route-call : (source departure destination : ℕ) (arcs : List ℕ) →
       (routeAnswer A asker source departure destination arcs ≡ routeAnswer B asker source departure destination arcs)
       × (routeArrival A asker source departure destination arcs ≡ routeArrival B asker source departure destination arcs)

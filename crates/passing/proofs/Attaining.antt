@@ -22,12 +22,13 @@ use Rattle.model.proofs.Least.{labels-attained}
 use Rattle.model.proofs.OnlyTables.{only-tables, labels-certified}
 use Rattle.model.proofs.Walks.{arrives-from-departure}
 use Rattle.checking.specs.Question.{Taken}
-use Rattle.passing.specs.code.Passing.{InPasses, OnArc, arrives, tickOf, UpToDate, AllUpToDate, LowestOf, no-arc, lowest, LowestAttaining}
-use Rattle.passing.proofs.Arcs.{head-label}
+use Rattle.closed_arcs.specs.FromLabels.{TimedLabels, OnArc, arrives}
+use Rattle.passing.specs.code.Passing.{tickOf, UpToDate, AllUpToDate, LowestOf, no-arc, lowest, LowestAttaining}
+use Rattle.closed_arcs.proofs.FromLabels.{head-label}
 use Rattle.passing.proofs.Lowering.{none-arrived}
 use Rattle.passing.proofs.Taken.{sound, departs}
 
-module _ {N : Network} {labels intervals′ : List ℕ} (p : InPasses N labels intervals′) {a : ℕ} (is-arc : a < arcs N) where
+module _ {N : Network} {labels intervals′ : List ℕ} (p : TimedLabels N labels intervals′) {a : ℕ} (is-arc : a < arcs N) where
   abbrev head : ℕ
   head = getD (N .heads) a 0
 
@@ -87,7 +88,7 @@ module _ {N : Net} {labels : List ℕ} (k : ℕ) {predecessors : List ℕ} (so-f
   }
 
 -- The next arc by its note. The network is any with these heads.
-module _ {N : Network} {labels intervals′ arrivals heads : List ℕ} (p : InPasses N labels intervals′) (is : N .heads ≡ heads) (up-to-date : AllUpToDate N labels arrivals (length heads))
+module _ {N : Network} {labels intervals′ arrivals heads : List ℕ} (p : TimedLabels N labels intervals′) (is : N .heads ≡ heads) (up-to-date : AllUpToDate N labels arrivals (length heads))
     (k : ℕ) (inside : k < length heads) {predecessors : List ℕ} (so-far : LowestAttaining (netOf N) labels k predecessors) where
   is-arc : k < arcs N
   is-arc = omega (arith, ap length is, p .accepted .heads-long)

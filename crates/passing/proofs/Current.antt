@@ -12,8 +12,9 @@ use lib.Seq.{getD-set-same, getD-set-other}
 use Rattle.model.specs.Ticks.{never}
 use Rattle.model.specs.Network.{Network, arcs, roadsOf, driveOf}
 use Rattle.model.proofs.Entries.{getD-all}
-use Rattle.passing.specs.code.Passing.{InPasses, offered, OnArc, arrives, too-late, not-driven, tickOf, UpToDate, AllUpToDate, Current, NoneLowered}
-use Rattle.passing.proofs.Arcs.{placed}
+use Rattle.closed_arcs.specs.FromLabels.{TimedLabels, offered, OnArc, arrives, too-late, not-driven}
+use Rattle.passing.specs.code.Passing.{tickOf, UpToDate, AllUpToDate, Current, NoneLowered}
+use Rattle.closed_arcs.proofs.FromLabels.{placed}
 
 -- ---- One arc
 
@@ -80,7 +81,7 @@ pub all-up-to-date : {N : Network} {labels arrivals latest : List ℕ} {made : �
     AllUpToDate N labels arrivals (arcs N)
 all-up-to-date c none-lowered a is-arc = c .seen a is-arc is-arc (none-lowered _)
 
-module _ {N : Network} {labels intervals arrivals latest : List ℕ} (p : InPasses N labels intervals) {made k : ℕ} (is-arc : k < arcs N)
+module _ {N : Network} {labels intervals arrivals latest : List ℕ} (p : TimedLabels N labels intervals) {made k : ℕ} (is-arc : k < arcs N)
     (c : Current N labels arrivals latest made k) where
   abbrev tail : ℕ
   tail = getD (N .tails) k 0

@@ -1,4 +1,3 @@
-pub mod Arcs
 pub mod Attaining
 pub mod Current
 pub mod Lowering

@@ -19,10 +19,11 @@ use Rattle.model.proofs.Beside.{beside-set}
 use Rattle.model.proofs.Networks.{accepted-sound}
 use Rattle.model.proofs.Passed.{passed-at-most}
 use Rattle.model.proofs.Passes.{over-no-rise}
-use Rattle.passing.specs.code.Passing.{InPasses, offered, OnArc, arrives, too-late, not-driven, Tells, lowered, same, LabelsBecome}
-use Rattle.passing.proofs.Arcs.{placed, at-most-never, head-label}
+use Rattle.closed_arcs.specs.FromLabels.{TimedLabels, offered, OnArc, arrives, too-late, not-driven}
+use Rattle.passing.specs.code.Passing.{Tells, lowered, same, LabelsBecome}
+use Rattle.closed_arcs.proofs.FromLabels.{placed, at-most-never, head-label}
 
-module _ {N : Network} {labels intervals′ : List ℕ} (p : InPasses N labels intervals′) {a : ℕ} (is-arc : a < arcs N) where
+module _ {N : Network} {labels intervals′ : List ℕ} (p : TimedLabels N labels intervals′) {a : ℕ} (is-arc : a < arcs N) where
   abbrev head : ℕ
   head = getD (N .heads) a 0
 
@@ -58,8 +59,9 @@ module _ {N : Network} {labels intervals′ : List ℕ} (p : InPasses N labels i
       let has-interval : head < length intervals′ = omega (arith, p .intervals-long, at .head-inside, at .few-junctions) in
       record {
         labels-are = ap (set labels head) (is ∙ sym (min-eq-right (omega arith)));
-        in-passes = record {
+        timed = record {
           accepted = p .accepted;
+          few-closures = p .few-closures;
           labels-long = length-set labels head tick ∙ p .labels-long;
           intervals-long = length-set intervals′ head interval ∙ p .intervals-long;
           by-last = λ j.
@@ -75,7 +77,7 @@ module _ {N : Network} {labels intervals′ : List ℕ} (p : InPasses N labels i
   unfolding offer
   keeps no-lower = record {
     labels-are = sym (ap (set labels head) (min-eq-left no-lower) ∙ set-getD labels head never);
-    in-passes = p;
+    timed = p;
     tells = same refl;
   }
 
@@ -84,9 +86,9 @@ module _ {N : Network} {labels intervals′ : List ℕ} (p : InPasses N labels i
 abbrev pub SoFar : Network → List ℕ → ℕ → List ℕ → List ℕ → Bool → Type 0
 SoFar N before a labels intervals changed = LabelsBecome N before (passOver (netOf N) before a) labels intervals changed
 
-pub pass-starts : {N : Network} {before intervals : List ℕ} → InPasses N before intervals → SoFar N before 0 before intervals false
+pub pass-starts : {N : Network} {before intervals : List ℕ} → TimedLabels N before intervals → SoFar N before 0 before intervals false
 unfolding passOver
-pass-starts p = record { labels-are = refl; in-passes = p; tells = same refl }
+pass-starts p = record { labels-are = refl; timed = p; tells = same refl }
 
 module _ {N : Network} {before labels intervals′ : List ℕ} (a : ℕ) {changed : Bool} (so-far : SoFar N before a labels intervals′ changed) where
   one-more : {labels′ : List ℕ} → labels′ ≡ offer (netOf N) labels a labels → labels′ ≡ passOver (netOf N) before (a + 1)
@@ -100,12 +102,12 @@ module _ {N : Network} {before labels intervals′ : List ℕ} (a : ℕ) {change
       SoFar N before (a + 1) labels′ intervals″ true
   pass-lowers {labels′} step = record {
     labels-are = one-more (step .labels-are);
-    in-passes = step .in-passes;
+    timed = step .timed;
     tells = below (step .tells);
   }
     where
       no-rise : (j : ℕ) → getD labels j never ≤ getD before j never
-      no-rise j = rw (so-far .labels-are) (over-no-rise (netOf N) (accepted-sound N (step .in-passes .accepted)) before a j)
+      no-rise j = rw (so-far .labels-are) (over-no-rise (netOf N) (accepted-sound N (step .timed .accepted)) before a j)
 
       below : Tells labels labels′ true → Tells before labels′ true
       below (lowered j less) = lowered j (omega (arith, no-rise j))
@@ -114,7 +116,7 @@ module _ {N : Network} {before labels intervals′ : List ℕ} (a : ℕ) {change
       SoFar N before (a + 1) labels′ intervals″ changed
   pass-keeps {labels′} step = record {
     labels-are = one-more (step .labels-are);
-    in-passes = step .in-passes;
+    timed = step .timed;
     tells = stays (step .tells);
   }
     where

@@ -1,6 +1,6 @@
 -- A call is refused where Labels is; where Labels replies, so does it, with the number of passes.
 use Prim.Native.Nat.{ℕ}
-use mathlib.Core.Path.{_≡_, refl, sym, ap, _∙_}
+use mathlib.Core.Path.{_≡_, sym, ap, _∙_}
 use mathlib.Core.List.{List}
 use native.Mathlib.Omega.{arith}
 use Rattle.model.specs.Labels.{labelsOf, predecessorsOf}
@@ -9,28 +9,19 @@ use Rattle.model.specs.Parties.{closuresFor}
 use Rattle.model.specs.Passes.{afterPasses, passesOf}
 use Rattle.model.specs.Rules.{Outcome, refused, replied}
 use Rattle.model.specs.declared.closure.Closure.{Closure}
+use Rattle.model.proofs.Rules.{replying-refused, replying-replied}
 use Rattle.checking.specs.Question.{Taken}
 use Rattle.checking.proofs.QuestionRules.{taken-for}
 use Rattle.labelling.specs.Labels.{labelsAnswer, labelsAfter, predecessorsAfter}
 use Rattle.labelling.proofs.LabelRules.{answered}
 use Rattle.labelling.proofs.LabelRules as labelling
-use Rattle.passing.specs.Passes.{replying, passesAnswer, PassesRefusesAsLabels, PassesRepliesFirstUnchanged, PassesOfCall}
+use Rattle.passing.specs.Passes.{passesAnswer, PassesRefusesAsLabels, PassesRepliesFirstUnchanged, PassesOfCall}
 use Rattle.passing.proofs.Taken.{first-unchanged, number-bounds, leaves-labels}
-
--- ---- Outcomes
-
-replying-refused : (outcome : Outcome (Unit {0})) (reply number : ℕ) → replying outcome reply ≡ refused number → outcome ≡ refused number
-replying-refused (refused n) reply number e = cc e
-replying-refused (replied unit) reply number e = let none : _≡_ {A = ℕ} 0 1 = cc e in absurd (omega arith)
-
-replying-replied : (outcome : Outcome (Unit {0})) (reply number : ℕ) → replying outcome reply ≡ replied number → (outcome ≡ replied tt) × (number ≡ reply)
-replying-replied (refused n) reply number e = let none : _≡_ {A = ℕ} 0 1 = cc e in absurd (omega arith)
-replying-replied (replied unit) reply number e = (refl, cc e)
 
 -- ---- The statements
 
 pub passes-refuses-as-labels : PassesRefusesAsLabels
-passes-refuses-as-labels N asker source departure labels predecessors number = (replying-refused _ _ number, λ e. rw e)
+passes-refuses-as-labels N asker source departure labels predecessors number = (replying-refused _ _, λ e. rw e)
 
 module _ (N : Network) (asker source departure : ℕ) (labels predecessors : List ℕ) where
   -- where Labels replies, the question is taken on the network as the asker finds it
@@ -39,16 +30,16 @@ module _ (N : Network) (asker source departure : ℕ) (labels predecessors : Lis
 
 pub passes-replies-first-unchanged : PassesRepliesFirstUnchanged
 passes-replies-first-unchanged N asker source departure labels predecessors number = (
-  λ e. let (replies, is) = replying-replied _ _ number e in (replies, first-unchanged (taken N asker source departure labels predecessors replies) number .0 is),
+  λ e. let (replies, is) = replying-replied _ _ e in (replies, first-unchanged (taken N asker source departure labels predecessors replies) number .0 (sym is)),
   λ (replies, first). rw replies (ap replied (sym (first-unchanged (taken N asker source departure labels predecessors replies) number .1 first))),
 )
 
 pub passes-of-call : PassesOfCall
 passes-of-call N asker source departure labels predecessors number e =
-    let (replies, is) = replying-replied _ _ number e in
+    let (replies, is) = replying-replied _ _ e in
     let q = taken N asker source departure labels predecessors replies in
     let (from-1, few) = number-bounds q in
-    (omega arith, omega arith, rw replies (ap (afterPasses (netOf (networkFor N asker)) source departure) is ∙ leaves-labels q))
+    (omega arith, omega arith, rw replies (ap (afterPasses (netOf (networkFor N asker)) source departure) (sym is) ∙ leaves-labels q))
 
 -- ---- How a call ends: the tables as Labels ends
 

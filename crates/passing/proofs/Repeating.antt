@@ -16,7 +16,8 @@ use Rattle.model.specs.Passes.{pass, afterPasses, passesOf, Unchanged, IsFirstU
 use Rattle.model.proofs.Beside.{beside-first}
 use Rattle.model.proofs.Within.{within-length, first-entry}
 use Rattle.checking.specs.Question.{Taken}
-use Rattle.passing.specs.code.Passing.{InPasses, Tells, lowered, same, LabelsBecome}
+use Rattle.closed_arcs.specs.FromLabels.{TimedLabels}
+use Rattle.passing.specs.code.Passing.{Tells, lowered, same, LabelsBecome}
 use Rattle.passing.proofs.Taken.{departs, first-unchanged, number-bounds, leaves-labels}
 
 -- The pass of this number is the next, and every earlier one has changed a label.
@@ -24,7 +25,7 @@ pub record Repeating (N : Network) (source departure number : ℕ) (labels inter
   pub from-1 : 1 ≤ number
   pub labels-are : labels ≡ afterPasses (netOf N) source departure (number - 1)
   pub earlier-change : (m : ℕ) → 1 ≤ m → m < number → Unchanged (netOf N) source departure m → ⊥
-  pub in-passes : InPasses N labels intervals
+  pub timed : TimedLabels N labels intervals
 
 module _ {N : Network} {source departure : ℕ} (q : Taken N source departure) where
   pub repeating-starts : {labels intervals : List ℕ} {interval : ℕ} → labels ≡ set (replicate (N .junctions) never) source departure →
@@ -34,8 +35,9 @@ module _ {N : Network} {source departure : ℕ} (q : Taken N source departure) w
     from-1 = omega arith;
     labels-are = labels-are;
     earlier-change = λ m from before. absurd (omega arith);
-    in-passes = rw (labels-are, intervals-are) (record {
+    timed = rw (labels-are, intervals-are) (record {
       accepted = q .accepted;
+      few-closures = q .closures-kept .at-most;
       labels-long = within-length (netOf N) source departure 0;
       intervals-long = length-set (replicate 200 0) source interval ∙ length-replicate {A = ℕ} 200 0;
       by-last = λ j. ⊎-elim inr (λ (_, is). inl (omega (arith, is, departs q))) (first-entry (netOf N) source departure j);
@@ -69,7 +71,7 @@ module _ {N : Network} {source departure : ℕ} (q : Taken N source departure) w
             labels-are = rw next (pass-made (made .labels-are));
             earlier-change = λ m from before unchanged.
                 by-cases (ℕ-discrete m number) (λ e. differs (rw is-true at (made .tells)) (rw e at unchanged)) (λ other. r .earlier-change m from (omega arith) unchanged);
-            in-passes = made .in-passes;
+            timed = made .timed;
           }
         where
           differs : Tells labels labels′ true → Unchanged (netOf N) source departure number → ⊥

@@ -7,7 +7,7 @@ use mathlib.Core.List.{List}
 use mathlib.Core.Logic.{_↔_}
 use Rattle.model.specs.Network.{Network, networkFor, netOf}
 use Rattle.model.specs.Passes.{afterPasses, passesOf, IsFirstUnchanged}
-use Rattle.model.specs.Rules.{Outcome, refused, replied}
+use Rattle.model.specs.Rules.{Outcome, refused, replied, replying}
 use Rattle.refusals.specs.Refusals.{numberOf}
 use Rattle.labelling.specs.Labels.{labelsAnswer, labelsAfter}
 use Rattle.passing.specs.declared.passes.Passed.{Passed}
@@ -17,11 +17,6 @@ use Rattle.passing.specs.declared.passes.Passed.the-variants.{Passes, Re
 abbrev pub outcomeOf : Passed → Outcome ℕ
 outcomeOf (Passes number) = replied number
 outcomeOf (Refused refusal) = refused (numberOf refusal)
-
--- A reply with something to say; a refusal stays.
-abbrev pub replying : Outcome (Unit {0}) → ℕ → Outcome ℕ
-replying (refused number) reply = refused number
-replying (replied tt) reply = replied reply
 
 -- Labels' own answer, with the number of passes on the network as the asker finds it.
 abbrev pub passesAnswer : Network → ℕ → ℕ → ℕ → List ℕ → List ℕ → Outcome ℕ

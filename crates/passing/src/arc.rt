@@ -4,7 +4,7 @@ ghost use lib.ListN.{length};
 ghost use Rattle.model.specs.Ticks.{arrivedAt};
 ghost use Rattle.model.specs.Lent.{networkIn, closuresIn, lentNetwork, lentClosures};
 ghost use Rattle.closed_arcs.specs.Marks.{Marked};
-ghost use Rattle.passing.specs.code.Passing.{InPasses, OnArc};
+ghost use Rattle.closed_arcs.specs.FromLabels.{TimedLabels, OnArc};
 use driving::closed::drive_closed_with_hold;
 use driving::hold::drive_with_hold;
 use model::limit::MAX_ARCS;
@@ -22,13 +22,13 @@ pub(crate) fn arrival_on(
     holds: &[u16],
     speeds: &[u8],
     closures: &[[u32; 4]],
-    closed: &[bool; MAX_ARCS],
+    marks: &[[u8; 2]; MAX_ARCS],
     labels: &[u32],
     intervals: &[u8; MAX_JUNCTIONS],
 ) -> Arrival
-    requires { ⌜ InPasses (networkIn (length (now labels)) fences tails heads lengths holds speeds (closuresIn closures)) (now labels) (now intervals) ⌝ }
+    requires { ⌜ TimedLabels (networkIn (length (now labels)) fences tails heads lengths holds speeds (closuresIn closures)) (now labels) (now intervals) ⌝ }
     requires { ⌜ arc < length (now tails) ⌝ }
-    requires { ⌜ Marked (closuresIn closures) (now closed) ⌝ }
+    requires { ⌜ Marked (closuresIn closures) (now marks) ⌝ }
     ensures { λ r. ⌜ OnArc (lentNetwork (length (now (labels .entry))) fences tails heads lengths holds speeds (lentClosures closures))
         (now (labels .entry)) arc (arrivedAt r) ⌝ }
 {
@@ -42,10 +42,13 @@ pub(crate) fn arrival_on(
     let interval = intervals[tail] as usize;
     let metres = lengths[arc];
     let hold = holds[arc] as u32;
-    // With the list at hand where a closure names the arc, and else by its plan alone.
+    // With the part of the list at hand in which its records stand, and by its plan alone where there are none.
     if closures.len() != 0 {
-        if closed[arc] {
-            return drive_closed_with_hold(
+        let mark = marks[arc];
+        let end = mark[1] as usize;
+        if end != 0 {
+            // Taken apart, so that an open arc's arrival need not stand in memory too.
+            if let Arrival::At { tick, interval } = drive_closed_with_hold(
                 tick,
                 interval,
                 metres,
@@ -53,8 +56,11 @@ pub(crate) fn arrival_on(
                 fences,
                 &speeds[from..to],
                 arc as u32,
-                closures,
-            );
+                &closures[mark[0] as usize..end],
+            ) {
+                return Arrival::At { tick, interval };
+            }
+            return Arrival::Never;
         }
     }
     drive_with_hold(tick, interval, metres, hold, fences, &speeds[from..to])

@@ -9,7 +9,8 @@ ghost use Rattle.model.specs.Lent.{networkIn, closuresIn, lentNetwork, lentClos
 ghost use Rattle.model.specs.Network.{netOf};
 ghost use Rattle.model.specs.Passes.{pass};
 ghost use Rattle.closed_arcs.specs.Marks.{Marked};
-ghost use Rattle.passing.specs.code.Passing.{InPasses, LabelsBecome, Current, NoneLowered};
+ghost use Rattle.closed_arcs.specs.FromLabels.{TimedLabels};
+ghost use Rattle.passing.specs.code.Passing.{LabelsBecome, Current, NoneLowered};
 use crate::arc::arrival_on;
 use model::label::UNREACHED;
 use model::limit::MAX_ARCS;
@@ -26,16 +27,16 @@ fn lower_head(
     holds: &[u16],
     speeds: &[u8],
     closures: &[[u32; 4]],
-    closed: &[bool; MAX_ARCS],
+    marks: &[[u8; 2]; MAX_ARCS],
     made: u32,
     labels: &mut [u32],
     intervals: &mut [u8; MAX_JUNCTIONS],
     arrivals: &mut [u32; MAX_ARCS],
     latest: &mut [u32; MAX_JUNCTIONS],
 ) -> bool
-    requires { ⌜ InPasses (networkIn (length (now labels)) fences tails heads lengths holds speeds (closuresIn closures)) (now labels) (now intervals) ⌝ }
+    requires { ⌜ TimedLabels (networkIn (length (now labels)) fences tails heads lengths holds speeds (closuresIn closures)) (now labels) (now intervals) ⌝ }
     requires { ⌜ arc < length (now tails) ⌝ }
-    requires { ⌜ Marked (closuresIn closures) (now closed) ⌝ }
+    requires { ⌜ Marked (closuresIn closures) (now marks) ⌝ }
     requires { ⌜ made < maxJunctions ⌝ }
     requires { ⌜ Current (networkIn (length (now labels)) fences tails heads lengths holds speeds (closuresIn closures)) (now labels) (now arrivals) (now latest) made arc ⌝ }
     ensures labels { λ r. ⌜ LabelsBecome (lentNetwork (length (now (labels .entry))) fences tails heads lengths holds speeds (lentClosures closures)) (now (labels .entry))
@@ -59,7 +60,7 @@ fn lower_head(
         holds,
         speeds,
         closures,
-        closed,
+        marks,
         labels,
         intervals,
     ) {
@@ -86,15 +87,15 @@ pub(crate) fn make_pass(
     holds: &[u16],
     speeds: &[u8],
     closures: &[[u32; 4]],
-    closed: &[bool; MAX_ARCS],
+    marks: &[[u8; 2]; MAX_ARCS],
     made: u32,
     labels: &mut [u32],
     intervals: &mut [u8; MAX_JUNCTIONS],
     arrivals: &mut [u32; MAX_ARCS],
     latest: &mut [u32; MAX_JUNCTIONS],
 ) -> bool
-    requires { ⌜ InPasses (networkIn (length (now labels)) fences tails heads lengths holds speeds (closuresIn closures)) (now labels) (now intervals) ⌝ }
-    requires { ⌜ Marked (closuresIn closures) (now closed) ⌝ }
+    requires { ⌜ TimedLabels (networkIn (length (now labels)) fences tails heads lengths holds speeds (closuresIn closures)) (now labels) (now intervals) ⌝ }
+    requires { ⌜ Marked (closuresIn closures) (now marks) ⌝ }
     requires { ⌜ made < maxJunctions ⌝ }
     requires { ⌜ Current (networkIn (length (now labels)) fences tails heads lengths holds speeds (closuresIn closures)) (now labels) (now arrivals) (now latest) made 0 ⌝ }
     requires { ⌜ NoneLowered (now latest) made ⌝ }
@@ -117,7 +118,7 @@ pub(crate) fn make_pass(
             holds,
             speeds,
             closures,
-            closed,
+            marks,
             made,
             labels,
             intervals,

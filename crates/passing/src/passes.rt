@@ -49,8 +49,8 @@ fn repeat_passes(
     ensures predecessors { λ _. ⌜ now (predecessors .exit) ≡
         predecessorsOf (netOf (lentNetwork junctions fences tails heads lengths holds speeds (lentClosures closures))) source departure ⌝ }
 {
-    let mut closed = [false; MAX_ARCS];
-    mark_closed(closures, &mut closed);
+    let mut marks = [[0u8; 2]; MAX_ARCS];
+    mark_closed(closures, &mut marks);
     clear_labels(labels);
     labels[source] = departure;
     let mut intervals = [0u8; MAX_JUNCTIONS];
@@ -69,7 +69,7 @@ fn repeat_passes(
             holds,
             speeds,
             closures,
-            &closed,
+            &marks,
             made,
             labels,
             &mut intervals,

@@ -8,7 +8,8 @@ ghost use lib.ListN.{length, getD};
 ghost use Rattle.model.specs.Limits.{maxArcs, maxJunctions};
 ghost use Rattle.model.specs.Network.{Network, netOf};
 ghost use Rattle.model.specs.Ticks.{never};
-ghost use Rattle.passing.specs.code.Passing.{InPasses, AllUpToDate, LowestAttaining};
+ghost use Rattle.closed_arcs.specs.FromLabels.{TimedLabels};
+ghost use Rattle.passing.specs.code.Passing.{AllUpToDate, LowestAttaining};
 use dijkstra::clear::clear_predecessors;
 use model::label::NO_ARC;
 use model::label::UNREACHED;
@@ -36,7 +37,7 @@ pub(crate) fn put_predecessors(
     requires { ⌜ length (now labels) ≤ maxJunctions ⌝ }
     requires { ⌜ length (now predecessors) ≡ length (now labels) ⌝ }
     requires { ⌜ ((a : ℕ) → a < length (now heads) → getD (now heads) a 0 < length (now labels)) ⌝ }
-    ensures lowest { λ _. ⌜ ((N : Network) (intervals : List ℕ) → N .heads ≡ now (heads .entry) → InPasses N (now (labels .entry)) intervals →
+    ensures lowest { λ _. ⌜ ((N : Network) (intervals : List ℕ) → N .heads ≡ now (heads .entry) → TimedLabels N (now (labels .entry)) intervals →
         AllUpToDate N (now (labels .entry)) (now (arrivals .entry)) (length (now (heads .entry))) →
         LowestAttaining (netOf N) (now (labels .entry)) (length (now (heads .entry))) (now (predecessors .exit))) ⌝ }
     ensures long { λ _. ⌜ length (now (predecessors .exit)) ≡ length (now (predecessors .entry)) ⌝ }

@@ -3,9 +3,9 @@
 use std::hint::black_box;
 
 use compare::inputs::towns::{ASKER, DEPARTURE, EVENING, SOURCE, Town, departures};
-use compare::operations::{CABINET, Converter, Labelling, Operations, REFERENCE};
+use compare::operations::{CABINET, Converter, Labelling, Operations, REFERENCE, TablesCheck};
 use compare::reference::limits::{FIGURES, MAX_ARCS, MAX_INTERVALS, MAX_TEXT, REFUSED};
-use compare::reference::{Closure, Form};
+use compare::reference::{Closure, Form, certificate_check};
 
 #[derive(Clone, Copy, PartialEq)]
 pub enum Operation {
@@ -22,13 +22,15 @@ pub enum Operation {
     Passes,
     PassesClosures64,
     PassesAgainst,
+    TablesCheck,
+    TablesCheckClosures64,
     Route,
     Sheet,
     HostQuestion,
 }
 
 impl Operation {
-    pub const ALL: [Self; 16] = [
+    pub const ALL: [Self; 18] = [
         Self::Load,
         Self::LoadHeld,
         Self::ToNew,
@@ -42,6 +44,8 @@ impl Operation {
         Self::Passes,
         Self::PassesClosures64,
         Self::PassesAgainst,
+        Self::TablesCheck,
+        Self::TablesCheckClosures64,
         Self::Route,
         Self::Sheet,
         Self::HostQuestion,
@@ -62,6 +66,8 @@ impl Operation {
             Self::Passes => "passes",
             Self::PassesClosures64 => "passes-closures-64",
             Self::PassesAgainst => "passes-against",
+            Self::TablesCheck => "tables-check",
+            Self::TablesCheckClosures64 => "tables-check-closures-64",
             Self::Route => "route",
             Self::Sheet => "sheet",
             Self::HostQuestion => "host-question",
@@ -72,11 +78,12 @@ impl Operation {
     pub fn takes(self, town: &str) -> bool {
         match self {
             Self::Labels | Self::LabelsEvening | Self::LabelsHeld | Self::Sheet => true,
-            Self::Passes | Self::PassesAgainst => true,
+            Self::Passes | Self::PassesAgainst | Self::TablesCheck => true,
             Self::Load | Self::LoadHeld | Self::ToNew | Self::ToOld => town != "full",
             Self::Route | Self::HostQuestion => town != "full",
             Self::LabelsClosures1 | Self::LabelsClosures64 => town == Town::CLOSED,
             Self::LabelsClosuresShared | Self::PassesClosures64 => town == Town::CLOSED,
+            Self::TablesCheckClosures64 => town == Town::CLOSED,
         }
     }
 
@@ -113,6 +120,14 @@ impl Implementation {
         match self {
             Self::Rattle => &CABINET,
             Self::Rust => &REFERENCE,
+        }
+    }
+
+    /// In Rust the one that reckons no labels.
+    fn tables_check(self) -> TablesCheck {
+        match self {
+            Self::Rattle => CABINET.tables_check,
+            Self::Rust => certificate_check,
         }
     }
 }
@@ -156,6 +171,7 @@ impl Row {
         let labels =
             |closures, departure| labelling(operations.labels, &self.town, closures, departure);
         let passes = |closures| labelling(operations.passes, &self.town, closures, DEPARTURE);
+        let check = |closures| tables_check(implementation.tables_check(), &self.town, closures);
         match self.operation {
             Operation::Load | Operation::LoadHeld => load(operations, &self.town),
             Operation::ToNew => convert(operations.to_new, &self.town),
@@ -167,6 +183,8 @@ impl Row {
             Operation::LabelsClosuresShared => labels(self.town.shared_closures(64), DEPARTURE),
             Operation::Passes | Operation::PassesAgainst => passes(Vec::new()),
             Operation::PassesClosures64 => passes(self.town.closures(64)),
+            Operation::TablesCheck => check(Vec::new()),
+            Operation::TablesCheckClosures64 => check(self.town.closures(64)),
             Operation::Route => route(operations, &self.town),
             Operation::Sheet => sheet(operations, &self.town),
             Operation::HostQuestion => host_question(operations, &self.town),
@@ -224,6 +242,39 @@ fn labelling<'a, T: 'a>(
             black_box(&mut predecessors),
         );
         assert!(reply.is_ok());
+    })
+}
+
+/// Of the tables that Labels leaves.
+fn tables_check<'a>(
+    operation: TablesCheck,
+    town: &'a Town,
+    closures: Vec<Closure>,
+) -> Box<dyn FnMut() + 'a> {
+    let network = town.network.lent();
+    let mut labels = vec![0; network.junctions as usize];
+    let mut predecessors = vec![0; network.junctions as usize];
+    let reply = (REFERENCE.labels)(
+        &network,
+        &closures,
+        ASKER,
+        SOURCE,
+        DEPARTURE,
+        &mut labels,
+        &mut predecessors,
+    );
+    assert!(reply.is_ok());
+    Box::new(move || {
+        let reply = operation(
+            black_box(&network),
+            black_box(&closures),
+            ASKER,
+            SOURCE,
+            DEPARTURE,
+            black_box(&labels),
+            black_box(&predecessors),
+        );
+        assert_eq!(reply, Ok(true));
     })
 }
 

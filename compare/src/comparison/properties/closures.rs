@@ -270,8 +270,8 @@ fn closed_throughout(random: &mut Random) -> Result<Outcome, Difference> {
 }
 
 /// Where nothing but the list and the asker may be damaged, the list's number is that of
-/// Labels, Passes, Route and Sheet, although all that comes after it is wrong; that of a good list is
-/// the asker's, and with a good asker the source's.
+/// Labels, Passes, the tables check, Route and Sheet, although all that comes after it is wrong;
+/// that of a good list is the asker's, and with a good asker the source's.
 fn closure_list(random: &mut Random) -> Result<Outcome, Difference> {
     let mut town = Town::random(random);
     let mut closures = town.random_closures(random);
@@ -290,11 +290,15 @@ fn closure_list(random: &mut Random) -> Result<Outcome, Difference> {
         _ if town.asker != 1 && town.asker != 2 => refused(39),
         _ => (Refusal(9), Outcome::Answered),
     };
-    let expected = [Err(refusal); 4];
+    let expected = [Err(refusal); 5];
     let found = refused_by_the_source(&town.network, &closures, town.asker);
     if found != expected {
         let both = [expected, found].map(|replies| format!("{replies:?}"));
-        return Err(town.difference("passes, route and sheet, all refused", &closures, both));
+        return Err(town.difference(
+            "passes, tables check, route and sheet, all refused",
+            &closures,
+            both,
+        ));
     }
     Ok(outcome)
 }

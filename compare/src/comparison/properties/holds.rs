@@ -140,10 +140,10 @@ fn hold_table(random: &mut Random) -> Result<Outcome, Difference> {
         party: 3,
     };
     let found = (check, refused_by_the_source(&network, &[wrong; 65], 0));
-    let expected = (expected, [after_network; 4]);
+    let expected = (expected, [after_network; 5]);
     if found != expected {
         return Err(Difference {
-            question: "network check, labels, passes, route and sheet".to_owned(),
+            question: "network check, labels, passes, tables check, route and sheet".to_owned(),
             input: shown(&network),
             expected: format!("{expected:?}"),
             found: format!("{found:?}"),

@@ -3,7 +3,7 @@
 
 use super::{driven, stopping};
 use crate::cabinet;
-use crate::comparison::answers::{Labelled, labelled, shown_closed};
+use crate::comparison::answers::{Labelled, checked, labelled, shown_closed};
 use crate::comparison::lent::Lent;
 use crate::comparison::{Check, Difference, Outcome};
 use crate::inputs::closures::{exchanged, random_asker, random_closures};
@@ -80,7 +80,7 @@ fn own_or_both(random: &mut Random) -> Result<Outcome, Difference> {
     Ok(driven(matters.then_some(())))
 }
 
-/// What Labels, Passes, Route and Sheet are asked, at times beyond their limits.
+/// What Labels, Passes, the tables check, Route and Sheet are asked, at times beyond their limits.
 struct Question {
     network: OwnedNetwork,
     source: u32,
@@ -92,11 +92,13 @@ struct Question {
     too_long: usize,
 }
 
-/// What the four reply, and what the tables lent to them then hold.
+/// What the five reply, and what the tables lent to them then hold.
 #[derive(Debug, PartialEq)]
 struct Answers {
     labels: Labelled<()>,
     passes: Labelled<u32>,
+    /// Of the tables without closures, whoever asks.
+    tables_check: Labelled<bool>,
     route: (Result<u32, Refusal>, Lent<u16>),
     sheet: (Result<(), Refusal>, Lent<u32>, Lent<u32>),
 }
@@ -176,6 +178,7 @@ impl Question {
             rows.part(),
             figures.part(),
         );
+        let open = labelled(cabinet::labels, &self.network, &[], asker, start, lengths).buffers;
         Answers {
             labels: labelled(
                 cabinet::labels,
@@ -192,6 +195,14 @@ impl Question {
                 asker,
                 start,
                 lengths,
+            ),
+            tables_check: checked(
+                cabinet::tables_check,
+                &self.network,
+                closures,
+                asker,
+                start,
+                (open.0.entries(), open.1.entries()),
             ),
             route: (route_reply, arcs),
             sheet: (sheet_reply, rows, figures),

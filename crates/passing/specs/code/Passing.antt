@@ -3,37 +3,16 @@ use Prim.Native.Nat.{ℕ, suc, _≤_, _<_}
 use mathlib.Core.Path.{_≡_}
 use mathlib.Core.Bool.{Bool, true, false}
 use mathlib.Core.List.{List}
-use mathlib.Core.Logic.{_⊎_}
 use mathlib.Core.Option.{Option, none, some}
 use lib.ListN.{length, getD}
-use Rattle.model.specs.Ticks.{last, never}
+use Rattle.model.specs.Ticks.{never}
 use Rattle.model.specs.Limits.{maxArcs, maxJunctions}
-use Rattle.model.specs.Intervals.{intervalOf, Beside}
 use Rattle.model.specs.Walks.{Net}
 use Rattle.model.specs.Labels.{noArc, Attains}
-use Rattle.model.specs.Network.{Network, Accepted, arcs, roadsOf, driveOf}
+use Rattle.model.specs.Network.{Network, arcs}
+use Rattle.closed_arcs.specs.FromLabels.{TimedLabels, offered, OnArc}
 
--- Each label is a tick up to the last, or never; and beside each that is reached stands its interval.
-pub record InPasses (N : Network) (labels intervals : List ℕ) : Type 0 where
-  pub accepted : Accepted N
-  pub labels-long : length labels ≡ N .junctions
-  pub intervals-long : length intervals ≡ maxJunctions
-  pub by-last : (j : ℕ) → (getD labels j never ≤ last) ⊎ (getD labels j never ≡ never)
-  pub beside : Beside (N .fences) labels intervals
-
--- ---- An arc
-
--- The arrival of who leaves the arc's tail at its label.
-abbrev pub offered : Network → List ℕ → ℕ → ℕ
-offered N labels a = driveOf (roadsOf N) a (getD labels (getD (N .tails) a 0) never)
-
--- What driving it comes to: the arrival with its interval; or none, where that is after the head's label, or never.
-pub data OnArc (N : Network) (labels : List ℕ) (a : ℕ) : Option (ℕ × ℕ) → Type 0 where
-  arrives : {tick interval : ℕ} → tick ≡ offered N labels a → tick ≤ last → interval ≡ intervalOf (N .fences) tick → OnArc N labels a (some (tick, interval))
-  too-late : getD labels (getD (N .heads) a 0) never < offered N labels a → OnArc N labels a none
-  not-driven : offered N labels a ≡ never → OnArc N labels a none
-
--- The tick of it, which is kept for the predecessors.
+-- The tick of what driving an arc comes to, which is kept for the predecessors.
 abbrev pub tickOf : Option (ℕ × ℕ) → ℕ
 tickOf (some (tick, interval)) = tick
 tickOf none = never
@@ -73,7 +52,7 @@ pub data Tells (before after : List ℕ) : Bool → Type 0 where
 -- What an arc or a pass leaves: the labels that it should, and it tells whether they have changed.
 pub record LabelsBecome (N : Network) (before expected after intervals : List ℕ) (changed : Bool) : Type 0 where
   pub labels-are : after ≡ expected
-  pub in-passes : InPasses N after intervals
+  pub timed : TimedLabels N after intervals
   pub tells : Tells before after changed
 
 -- ---- Predecessors

@@ -3,7 +3,6 @@
 use borrow.Author.Needs.{needs}
 use Prim.Native.Nat.{_<_}
 use mathlib.Core.Path.{_≡_, refl, sym, ap, _∙_}
-use mathlib.Core.Bool.{false}
 use native.Mathlib.Omega.{arith}
 use lib.ListN.{length, set, replicate, length-replicate}
 use denote.Ref.{now}
@@ -114,7 +113,7 @@ settle-requires c κs =
         has-label = nearest j .0 .inside;
         drivable = drivable (begun (round j) .pre .tables-fit) (b .linked) (b .standing) (below j);
       },
-      marked .mark-closed .ensures (length-replicate 640 false),
+      marked .mark-closed .ensures refl,
     )
 
 loop-less : tie.Need-loop-less Inv-loop μ-loop

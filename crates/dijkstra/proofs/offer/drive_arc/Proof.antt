@@ -1,43 +1,81 @@
--- `offer::drive_arc` lends the engine the arc's part of the speeds. An arc without a mark is closed at no tick, so that the engine without closures
--- comes to the same.
+-- `offer::drive_arc` lends the engine the arc's part of the speeds, and its part of the closures. An arc that has none is closed at no tick, so that the
+-- engine without closures comes to the same.
 use borrow.Author.Needs.{needs}
-use Prim.Native.Nat.{ℕ}
+use Prim.Native.Nat.{ℕ, _≤_}
 use mathlib.Core.Path.{_≡_, ap, _∙_}
 use mathlib.Core.Bool.{false}
 use mathlib.Core.Logic.{⊎-elim}
 use native.Mathlib.Nat.{add-sub-cancel-left}
+use native.Mathlib.Omega.{arith}
 use mir.Facts.{fits-widen}
+use lib.ListN.{length}
 use denote.Ref.{now}
-use Rattle.model.specs.Closures.{closed?}
+use Rattle.model.specs.Closures.{maxClosures, closuresOf, closed?}
 use Rattle.model.specs.Intervals.{tickAndInterval?}
 use Rattle.model.specs.Lent.{roadsIn, closuresIn}
-use Rattle.model.specs.Network.{speedOn, driveOf}
-use Rattle.closed_arcs.proofs.Marks.{unmarked-open, none-open, open-drive}
+use Rattle.model.specs.Network.{Roads}
+use Rattle.closed_arcs.specs.Marks.{startOf, endOf, markOf}
+use Rattle.closed_arcs.proofs.Marks.{unmarked-open, none-open, open-drive, part-inside, part-closes, part-drive}
 use Rattle.dijkstra.proofs.offer.drive_arc.Statement.{statement}
 use Rattle.dijkstra.proofs.offer.drive_arc.Tie as tie
 
 cast-hold : tie.Need-cast-hold
 cast-hold c = fits-widen tt (c .shared-slice-known6 .given _)
 
-returns : tie.Need-returns
-unfolding driveOf speedOn
-returns c =
-    let drove : tie.After-drive-closed-with-hold = search in
-    (rw add-sub-cancel-left at (drove .drive-closed-with-hold .ensures .0), drove .drive-closed-with-hold .ensures .1)
+-- the arc's part of the closures lies in the list
+part : (s : tie.Start) →
+    let mark = markOf (now (s .args .marks)) (s .args .arc) in
+    (startOf mark ≤ endOf mark) × (endOf mark ≤ length (now (s .args .closures))) × (endOf mark ≤ maxClosures)
+part s = part-inside (now (s .args .closures)) (s .pre .1) (s .args .arc)
 
+cast-end : tie.Need-cast-end
+cast-end c = let begun : tie.Start = search in omega (arith, part begun .2)
+
+cast-start : tie.Need-cast-drive-closed-with-hold-2
+cast-start c = let begun : tie.Start = search in omega (arith, part begun .0, part begun .2)
+
+mul-start : tie.Need-mul-drive-closed-with-hold
+mul-start c = let begun : tie.Start = search in omega (arith, part begun .0, part begun .2)
+
+sub-closures : tie.Need-sub-drive-closed-with-hold-2
+sub-closures c = let begun : tie.Start = search in part begun .0
+
+closures-start : tie.Need-part-drive-closed-with-hold-start-2
+closures-start c = let begun : tie.Start = search in part begun .0
+
+closures-end : tie.Need-part-drive-closed-with-hold-end-2
+closures-end c = let begun : tie.Start = search in part begun .1
+
+abbrev R : tie.Start → Roads
+R s = let args = s .args in roadsIn (args .fences) (args .lengths) (args .holds) (args .speeds) (closuresIn (args .closures))
+
+-- the records of the arc's part decide
+returns : tie.Need-returns
+returns c =
+    let begun : tie.Start = search in
+    let drove : tie.After-drive-closed-with-hold = search in
+    let args = begun .args in
+    let drives = rw add-sub-cancel-left at (drove .drive-closed-with-hold .ensures .0) in (
+      (λ few kept.
+          drives kept
+          ∙ ap (tickAndInterval? (now (args .fences)))
+          (part-drive (R begun) (args .arc) _ (part-closes (now (args .closures)) _ (begun .pre .1) few (args .arc) (begun .pre .0 .few-arcs)) (args .tick))),
+      drove .drive-closed-with-hold .ensures .1,
+    )
+
+-- without any the plan does
 returns-2 : tie.Need-returns-2
 returns-2 c =
     let begun : tie.Start = search in
     let joined : tie.Joined1 = search in
     let args = begun .args in
-    let R = roadsIn (args .fences) (args .lengths) (args .holds) (args .speeds) (closuresIn (args .closures)) in
-    let is-open : (t : ℕ) → closed? (R .closures) (args .arc) t ≡ false = λ t.
+    let is-open : length (closuresOf (now (args .closures))) ≤ maxClosures → (t : ℕ) → closed? (R begun .closures) (args .arc) t ≡ false = λ few t.
     ⊎-elim
-    (λ w. unmarked-open (R .closures) (now (args .closed)) (begun .pre .1) (args .arc) (begun .pre .0 .few-arcs) (w .2 .left) t)
+    (λ w. unmarked-open (now (args .closures)) _ (begun .pre .1) few (args .arc) (begun .pre .0 .few-arcs) (w .2 .left) t)
     (λ w. none-open (now (args .closures)) (w .left) (args .arc) t)
     (joined .if1 .came) in
-    let drove = rw add-sub-cancel-left at (c .drive-with-hold .ensures .0) in (
-      λ kept. drove kept ∙ ap (tickAndInterval? (R .fences)) (open-drive R (args .arc) is-open (args .tick)),
+    let drives = rw add-sub-cancel-left at (c .drive-with-hold .ensures .0) in (
+      (λ few kept. drives kept ∙ ap (tickAndInterval? (now (args .fences))) (open-drive (R begun) (args .arc) (is-open few) (args .tick))),
       c .drive-with-hold .ensures .1,
     )
 
@@ -55,9 +93,18 @@ drive-arc-spec =
     (λ c. search needs)
     (λ c. search needs)
     (λ c. search needs)
+    cast-end
     (λ c. search needs)
     (λ c. search needs)
     (λ c. search needs)
+    (λ c. search needs)
+    (λ c. search needs)
+    cast-start
+    mul-start
+    sub-closures
+    closures-start
+    closures-end
+    (λ c κs. search needs)
     returns
     (λ c. search needs)
     (λ c. search needs)

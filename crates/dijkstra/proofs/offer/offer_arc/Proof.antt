@@ -19,12 +19,12 @@ returns c =
     let drove : tie.After-drive-arc = search in
     let arrived : tie.After-arrival = search in
     let made : tie.After-offer = search in
-    offered (λ kept. sym (ap arrivedAt (arrived .arrival .given .1)) ∙ drove .drive-arc .ensures .0 kept) (made .offer .ensures)
+    offered (λ few kept. sym (ap arrivedAt (arrived .arrival .given .1)) ∙ drove .drive-arc .ensures .0 few kept) (made .offer .ensures)
 
 returns-2 : tie.Need-returns-2
 returns-2 c =
     let drove : tie.After-drive-arc = search in
-    missed (λ kept. sym (ap arrivedAt (c .enum-told .given .1)) ∙ drove .drive-arc .ensures .0 kept)
+    missed (λ few kept. sym (ap arrivedAt (c .enum-told .given .1)) ∙ drove .drive-arc .ensures .0 few kept)
 
 pub offer-arc-spec : {M : Type 1} → statement M
 offer-arc-spec =

@@ -1,23 +1,27 @@
 -- `arc::arrival_on`: the indices lie in the tables of an accepted network, and the engine is lent the arc's part of the speeds. An arc without a mark is
 -- closed at no tick.
 use borrow.Author.Needs.{needs}
-use Prim.Native.Nat.{ℕ}
+use Prim.Native.Nat.{ℕ, _≤_}
 use mathlib.Core.Bool.{false}
 use mathlib.Core.Logic.{⊎-elim}
-use mathlib.Core.Path.{_≡_, ap, _∙_}
+use mathlib.Core.Path.{_≡_, sym, ap, _∙_}
 use native.Mathlib.Nat.{add-sub-cancel-left}
 use native.Mathlib.Omega.{arith}
 use mir.Facts.{fits-widen}
 use lib.ListN.{length, getD}
 use denote.Ref.{now}
+use Rattle.model.specs.Ticks.{arrivedAt}
+use Rattle.model.specs.declared.tick.Arrival.{Arrival}
 use Rattle.model.specs.Lent.{networkIn, closuresIn}
-use Rattle.model.specs.Closures.{closed?}
+use Rattle.model.specs.Closures.{maxClosures, closed?}
 use Rattle.model.specs.Intervals.{tickAndInterval?}
-use Rattle.model.specs.Network.{Network, roadsOf, speedsOf, speedOn, driveOf}
+use Rattle.model.specs.Network.{Network, roadsOf, speedsOf}
 use Rattle.driving.specs.ArcKept.{ArcKept}
 use Rattle.driving.proofs.Driving.{kept-inside}
-use Rattle.closed_arcs.proofs.Marks.{unmarked-open, none-open, open-drive}
-use Rattle.passing.proofs.Arcs.{Placed, placed, none-lowered, tail-kept, on-arc}
+use Rattle.closed_arcs.specs.FromLabels.{OnArc}
+use Rattle.closed_arcs.specs.Marks.{startOf, endOf, markOf}
+use Rattle.closed_arcs.proofs.Marks.{unmarked-open, none-open, open-drive, part-inside, part-closes, part-drive}
+use Rattle.closed_arcs.proofs.FromLabels.{Placed, placed, none-lowered, tail-kept, on-arc}
 use Rattle.passing.proofs.arc.arrival_on.Statement.{statement}
 use Rattle.passing.proofs.arc.arrival_on.Tie as tie
 
@@ -96,36 +100,81 @@ shared-slice-read-hold c = let begun : tie.Start = search in at begun .has-arc .
 cast-hold : tie.Need-cast-hold
 cast-hold c = fits-widen tt (c .shared-slice-known13 .given _)
 
-element-copy-out-if3 : tie.Need-element-copy-out-if3
-element-copy-out-if3 c = let begun : tie.Start = search in at begun .has-arc .few-arcs
+mul-mark : tie.Need-mul-mark
+mul-mark c = let begun : tie.Start = search in omega (arith, at begun .has-arc .few-arcs)
+
+element-copy-out-mark : tie.Need-element-copy-out-mark
+element-copy-out-mark c = let begun : tie.Start = search in at begun .has-arc .few-arcs
+
+-- the arc's part of the closures lies in the list
+part : (s : tie.Start) →
+    let mark = markOf (now (s .args .marks)) (s .args .arc) in
+    (startOf mark ≤ endOf mark) × (endOf mark ≤ length (now (s .args .closures))) × (endOf mark ≤ maxClosures)
+part s = part-inside (now (s .args .closures)) (s .pre .1 .1) (s .args .arc)
+
+cast-end : tie.Need-cast-end
+cast-end c = let begun : tie.Start = search in omega (arith, part begun .2)
+
+cast-start : tie.Need-cast-drive-closed-with-hold-2
+cast-start c = let begun : tie.Start = search in omega (arith, part begun .0, part begun .2)
+
+mul-start : tie.Need-mul-drive-closed-with-hold
+mul-start c = let begun : tie.Start = search in omega (arith, part begun .0, part begun .2)
+
+sub-closures : tie.Need-sub-drive-closed-with-hold-2
+sub-closures c = let begun : tie.Start = search in part begun .0
+
+closures-start : tie.Need-part-drive-closed-with-hold-start-2
+closures-start c = let begun : tie.Start = search in part begun .0
+
+closures-end : tie.Need-part-drive-closed-with-hold-end-2
+closures-end c = let begun : tie.Start = search in part begun .1
 
 part-closed-end : tie.Need-part-drive-closed-with-hold-end
 part-closed-end c = let begun : tie.Start = search in at begun .has-arc .has-speeds
 
-returns-2 : tie.Need-returns-2
-unfolding driveOf speedOn
-returns-2 c =
+-- a closed arc's drive, whichever case of it is told
+closed-on-arc : (c : tie.After-drive-closed-with-hold) {case : Arrival} → c .drive-closed-with-hold .result ≡ case →
     let left : tie.Else1 = search in
-    on-arc (begun left .pre .0) (begun left .pre .1 .0) _ ((rw add-sub-cancel-left at (c .drive-closed-with-hold .ensures .0)) (kept left))
+    OnArc (N (begun left)) (now (begun left .args .labels)) (begun left .args .arc) (arrivedAt case)
+closed-on-arc c is =
+    let left : tie.Else1 = search in
+    let args = begun left .args in
+    let (timed, (is-arc, marked)) = begun left .pre in
+    let R = roadsOf (N (begun left)) in
+    let drove = (rw add-sub-cancel-left at (c .drive-closed-with-hold .ensures .0)) (kept left) in
+    let same = part-closes (now (args .closures)) _ marked (timed .few-closures) (args .arc) (at (begun left) .has-arc .few-arcs) in
+    on-arc timed is-arc _ (sym (ap arrivedAt is) ∙ (drove ∙ ap (tickAndInterval? (R .fences)) (part-drive R (args .arc) _ same _)))
+
+returns-2 : tie.Need-returns-2
+returns-2 c =
+    let driven : tie.After-drive-closed-with-hold = search in
+    let told : tie.After-tick = search in
+    closed-on-arc driven (told .tick .given .1)
+
+returns-3 : tie.Need-returns-3
+returns-3 c =
+    let driven : tie.After-drive-closed-with-hold = search in
+    closed-on-arc driven (c .enum-told .given .1)
 
 part-end : tie.Need-part-drive-with-hold-end
 part-end c = let begun : tie.Start = search in at begun .has-arc .has-speeds
 
 -- where there is no mark, or no closure, the plan alone decides
-returns-3 : tie.Need-returns-3
-returns-3 c =
+returns-4 : tie.Need-returns-4
+returns-4 c =
     let left : tie.Else1 = search in
     let joined : tie.Joined2 = search in
     let args = begun left .args in
-    let (in-passes, (is-arc, marked)) = begun left .pre in
+    let (timed, (is-arc, marked)) = begun left .pre in
     let R = roadsOf (N (begun left)) in
     let is-open : (t : ℕ) → closed? (R .closures) (args .arc) t ≡ false = λ t.
     ⊎-elim
-    (λ w. unmarked-open (R .closures) (now (args .closed)) marked (args .arc) (at (begun left) .has-arc .few-arcs) (w .2 .left) t)
+    (λ w. unmarked-open (now (args .closures)) _ marked (timed .few-closures) (args .arc) (at (begun left) .has-arc .few-arcs) (w .2 .left) t)
     (λ w. none-open (now (args .closures)) (w .left) (args .arc) t)
     (joined .if2 .came) in
     let drove = (rw add-sub-cancel-left at (c .drive-with-hold .ensures .0)) (kept left) in
-    on-arc in-passes is-arc _ (drove ∙ ap (tickAndInterval? (R .fences)) (open-drive R (args .arc) is-open _))
+    on-arc timed is-arc _ (drove ∙ ap (tickAndInterval? (R .fences)) (open-drive R (args .arc) is-open _))
 
 pub arrival-on-spec : {M : Type 1} → statement M
 arrival-on-spec =
@@ -151,15 +200,27 @@ arrival-on-spec =
     mul-hold
     shared-slice-read-hold
     cast-hold
-    element-copy-out-if3
+    mul-mark
+    element-copy-out-mark
+    (λ c. search needs)
+    cast-end
     (λ c. search needs)
     (λ c. search needs)
     part-closed-end
     (λ c. search needs)
+    (λ c. search needs)
+    cast-start
+    mul-start
+    sub-closures
+    closures-start
+    closures-end
     (λ c κs. search needs)
+    (λ c. search needs)
     returns-2
+    (λ c. search needs)
+    returns-3
     (λ c. search needs)
     (λ c. search needs)
     part-end
     (λ c κs. search needs)
-    returns-3)
+    returns-4)

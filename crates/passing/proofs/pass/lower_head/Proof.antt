@@ -8,7 +8,7 @@ use mir.Facts.{fits-widen}
 use denote.Ref.{now}
 use Rattle.model.specs.Lent.{networkIn, closuresIn}
 use Rattle.model.specs.Network.{Network}
-use Rattle.passing.proofs.Arcs.{Placed, placed, head-label}
+use Rattle.closed_arcs.proofs.FromLabels.{Placed, placed, head-label}
 use Rattle.passing.proofs.Current.{was-up-to-date, current-skips, current-keeps, current-lowers}
 use Rattle.passing.proofs.Lowering.{in-plan, arrival-is, no-sooner, none-sooner, lowers, keeps}
 use Rattle.passing.proofs.pass.lower_head.Statement.{statement}

@@ -35,16 +35,16 @@ lower-head-requires c κs =
     let begun : tie.Start Inv-loop μ-loop = search in
     let turn : tie.In-loop Inv-loop μ-loop = search in
     let (so-far, (now-is, _)) = turn .before .loop .inv in
-    let long = so-far .in-passes .labels-long in
+    let long = so-far .timed .labels-long in
     let (_, (marked, (few, _))) = begun .pre in
-    (rw long (so-far .in-passes), (turn .loop-test .taken, (marked, (few, rw long now-is))))
+    (rw long (so-far .timed), (turn .loop-test .taken, (marked, (few, rw long now-is))))
 
 loop-again : tie.Need-loop-again Inv-loop μ-loop
 loop-again c =
     let turn : tie.In-loop Inv-loop μ-loop = search in
     let called : tie.After-lower-head Inv-loop μ-loop = search in
     let (so-far, (_, (none-lowered, _))) = turn .before .loop .inv in
-    let long = so-far .in-passes .labels-long in
+    let long = so-far .timed .labels-long in
     let (leaves, (now-is, same)) = called .lower-head .ensures in
     let step = rw long at leaves in
     let next = rw long at now-is in
@@ -56,7 +56,7 @@ loop-again c =
     (c .if1 .came)
 
 same-length : tie.Need-same-length Inv-loop μ-loop
-same-length c = c .before .loop .inv .0 .in-passes .labels-long
+same-length c = c .before .loop .inv .0 .timed .labels-long
 
 returns : tie.Need-returns Inv-loop μ-loop
 returns c =

@@ -76,8 +76,8 @@ make-pass-requires c κs =
     let turn : tie.At-loop Inv-loop μ-loop = search in
     let marked : tie.After-mark-closed Inv-loop μ-loop = search in
     let (r, (now-is, untouched)) = turn .loop .inv in
-    let long = r .in-passes .labels-long in
-    (rw long (r .in-passes), (marked .mark-closed .ensures refl, (few turn, (rw long now-is, untouched))))
+    let long = r .timed .labels-long in
+    (rw long (r .timed), (marked .mark-closed .ensures refl, (few turn, (rw long now-is, untouched))))
 
 add-made : tie.Need-add-made Inv-loop μ-loop
 add-made c = let turn : tie.At-loop Inv-loop μ-loop = search in omega (arith, few turn)
@@ -90,7 +90,7 @@ loop-less c =
     let turn = round passed in
     let (r, _) = turn .loop .inv in
     let q = begun turn .pre .taken in
-    let left = rw (r .in-passes .labels-long) at (passed .make-pass .ensures .0) in
+    let left = rw (r .timed .labels-long) at (passed .make-pass .ensures .0) in
     omega (arith, at-most-junctions q (goes-on q r left (not-false (passed .make-pass .result) (on .if1 .left))))
 
 loop-again : tie.Need-loop-again Inv-loop μ-loop
@@ -99,7 +99,7 @@ loop-again c =
     let on : tie.Else1 Inv-loop μ-loop = search in
     let turn = round passed in
     let (r, _) = turn .loop .inv in
-    let long = r .in-passes .labels-long in
+    let long = r .timed .labels-long in
     let (leaves, (now-is, _)) = passed .make-pass .ensures in
     (goes-on (begun turn .pre .taken) r (rw long at leaves) (not-false (passed .make-pass .result) (on .if1 .left)), current-next (rw long at now-is))
 
@@ -108,7 +108,7 @@ put-predecessors-requires c κs =
     let passed : tie.After-make-pass Inv-loop μ-loop = search in
     let turn = round passed in
     let accepted = begun turn .pre .taken .accepted in
-    let p = (rw (turn .loop .inv .0 .in-passes .labels-long) at (passed .make-pass .ensures .0)) .in-passes in (
+    let p = (rw (turn .loop .inv .0 .timed .labels-long) at (passed .make-pass .ensures .0)) .timed in (
       omega (arith, accepted .heads-long, accepted .arcs-fit),
       (
         omega (arith, p .labels-long, accepted .junctions-fit),
@@ -126,7 +126,7 @@ same-length : tie.Need-same-length Inv-loop μ-loop
 same-length c =
     let passed : tie.After-make-pass Inv-loop μ-loop = search in
     let turn = round passed in
-    (rw (turn .loop .inv .0 .in-passes .labels-long) at (passed .make-pass .ensures .0)) .in-passes .labels-long ∙ sym (begun turn .pre .labels-long)
+    (rw (turn .loop .inv .0 .timed .labels-long) at (passed .make-pass .ensures .0)) .timed .labels-long ∙ sym (begun turn .pre .labels-long)
 
 same-length-2 : tie.Need-same-length-2 Inv-loop μ-loop
 same-length-2 c = let put : tie.After-put-predecessors Inv-loop μ-loop = search in put .put-predecessors .ensures .1
@@ -141,10 +141,10 @@ returns c =
     let q = begun turn .pre .taken in
     let unchanged = not-true (passed .make-pass .result) (stop .if1 .taken) in
     let (leaves, (now-is, untouched)) = passed .make-pass .ensures in
-    let long = r .in-passes .labels-long in
+    let long = r .timed .labels-long in
     let left = rw long at leaves in
     let up-to-date = rw (← q .accepted .heads-long) at (all-up-to-date (rw long at now-is) (untouched unchanged)) in
-    let all = rw (q .accepted .heads-long) at (put .put-predecessors .ensures .0 _ _ refl (left .in-passes) up-to-date) in
+    let all = rw (q .accepted .heads-long) at (put .put-predecessors .ensures .0 _ _ refl (left .timed) up-to-date) in
     let (number-is, labels-are) = ends q r left unchanged in
     (number-is, (labels-are, are-predecessors q labels-are all))
 

@@ -11,13 +11,14 @@ use mir.Facts.{fits-widen}
 use denote.Ref.{now}
 use Rattle.model.specs.Labels.{noArc}
 use Rattle.model.specs.Network.{Network, netOf}
-use Rattle.passing.specs.code.Passing.{InPasses, AllUpToDate, LowestAttaining}
+use Rattle.closed_arcs.specs.FromLabels.{TimedLabels}
+use Rattle.passing.specs.code.Passing.{AllUpToDate, LowestAttaining}
 use Rattle.passing.proofs.Attaining.{none-yet, next-taken, next-missed, next-has}
 use Rattle.passing.proofs.predecessor.put_predecessors.Statement.{statement}
 use Rattle.passing.proofs.predecessor.put_predecessors.Tie as tie
 
 abbrev Inv-loop : tie.InvT-loop
-Inv-loop heads labels arrivals predecessors₀ arc₀ predecessors arc = ((N : Network) (intervals : List ℕ) → N .heads ≡ heads → InPasses N labels intervals →
+Inv-loop heads labels arrivals predecessors₀ arc₀ predecessors arc = ((N : Network) (intervals : List ℕ) → N .heads ≡ heads → TimedLabels N labels intervals →
     AllUpToDate N labels arrivals (length heads) → LowestAttaining (netOf N) labels arc predecessors)
     × ((length predecessors ≡ length labels) × (arc ≤ length heads))
 

@@ -1,4 +1,4 @@
--- An arc in the midst of the passes: where its indices lie, and what driving it comes to.
+-- An arc that is left at its tail's label: where its indices lie, and what driving it comes to.
 use Prim.Native.Nat.{ℕ, _*_, _≤_, _<_}
 use mathlib.Core.Path.{_≡_, sym, ap, _∙_}
 use mathlib.Core.List.{List}
@@ -16,9 +16,9 @@ use Rattle.model.proofs.Networks.{accepted-sound, drive-by-last}
 use Rattle.model.proofs.Walks.{drive-never}
 use Rattle.model.proofs.WithInterval.{arrived-at, arrived-never}
 use Rattle.driving.specs.ArcKept.{ArcKept}
 use Rattle.closed_arcs.specs.Arcs.{HasArc}
+use Rattle.closed_arcs.specs.FromLabels.{TimedLabels, OnArc, arrives, too-late, not-driven}
 use Rattle.closed_arcs.proofs.Arcs.{arc-inside, arc-kept}
-use Rattle.passing.specs.code.Passing.{InPasses, OnArc, arrives, too-late, not-driven}
 
 -- Where an arc's entries lie.
 pub record Placed (N : Network) (labels : List ℕ) (a : ℕ) : Type 0 where
@@ -29,7 +29,7 @@ pub record Placed (N : Network) (labels : List ℕ) (a : ℕ) : Type 0 where
   pub tail-inside : getD (N .tails) a 0 < length labels
   pub head-inside : getD (N .heads) a 0 < length labels
 
-module _ {N : Network} {labels intervals′ : List ℕ} (p : InPasses N labels intervals′) {a : ℕ} (is-arc : a < arcs N) where
+module _ {N : Network} {labels intervals′ : List ℕ} (p : TimedLabels N labels intervals′) {a : ℕ} (is-arc : a < arcs N) where
   pub placed : Placed N labels a
   placed =
       let accepted = p .accepted in

@@ -1,0 +1,4 @@
+pub mod Certificate
+pub mod Deciding
+pub mod Looking
+pub mod TablesRules

@@ -8,6 +8,7 @@ use native.Mathlib.Nat.{mul-le-mul}
 use native.Mathlib.Omega.{arith}
 use lib.ListN.{length, getD}
 use Rattle.model.specs.Ticks.{last, never}
+use Rattle.model.specs.Closures.{maxClosures, closuresOf, withClosures}
 use Rattle.model.specs.Limits.{maxJunctions, maxArcs, maxIntervals}
 use Rattle.model.specs.Intervals.{intervalOf, tickAndInterval?}
 use Rattle.model.specs.Network.{Network, arcs, intervals, roadsOf, speedsOf, driveOf}
@@ -18,7 +19,9 @@ use Rattle.model.proofs.WithInterval.{arrived-at, arrived-never}
 use Rattle.driving.specs.ArcKept.{ArcKept}
 use Rattle.closed_arcs.specs.Arcs.{HasArc}
 use Rattle.closed_arcs.specs.FromLabels.{TimedLabels, OnArc, arrives, too-late, not-driven}
+use Rattle.closed_arcs.specs.Marks.{endOf, markOf, Marked}
 use Rattle.closed_arcs.proofs.Arcs.{arc-inside, arc-kept}
+use Rattle.closed_arcs.proofs.Marks.{partOf, plan, arrivalBy, part-drive, open-drive}
 
 -- Where an arc's entries lie.
 pub record Placed (N : Network) (labels : List ℕ) (a : ℕ) : Type 0 where
@@ -82,9 +85,25 @@ module _ {N : Network} {labels intervals′ : List ℕ} (p : TimedLabels N label
       let in-interval = p .beside tail (placed .tail-inside) (omega (arith, by-last)) in
       arc-kept N (p .accepted) (getD labels tail 0) (getD intervals′ tail 0) a (omega (arith, tail-label)) (in-interval ∙ ap (intervalOf (N .fences)) (sym tail-label)) is-arc
 
-  pub on-arc : (arrived : Option (ℕ × ℕ)) → arrived ≡ tickAndInterval? (N .fences) (driveOf (roadsOf N) a (getD labels tail 0)) → OnArc N labels a arrived
+  on-arc : (arrived : Option (ℕ × ℕ)) → arrived ≡ tickAndInterval? (N .fences) (driveOf (roadsOf N) a (getD labels tail 0)) → OnArc N labels a arrived
   on-arc (some (tick, interval)) is =
       let (same, in-interval, by-last) = arrived-at (N .fences) tick interval _ is in
       arrives (same ∙ ap (driveOf (roadsOf N) a) tail-label) (omega arith) (in-interval ∙ ap (intervalOf (N .fences)) (sym same))
   on-arc none is =
       not-driven (ap (driveOf (roadsOf N) a) (sym tail-label) ∙ arrived-never (N .fences) _ (drive-by-last (roadsOf N) a (getD labels tail 0)) is)
+
+  -- The same of what the engines tell: lent the arc's part of the closures, and lent none where there are none in it.
+  module _ (rows : List (List ℕ)) {marks : List (List ℕ)} (marked : Marked (closuresOf rows) marks) (are : N .closures ≡ closuresOf rows) where
+    few : length (closuresOf rows) ≤ maxClosures
+    few = omega (arith, p .few-closures, ap length are)
+
+    pub on-closed-arc : {arrived : Option (ℕ × ℕ)} →
+        arrived ≡ tickAndInterval? (N .fences) (arrivalBy (roadsOf N) a (withClosures (closuresOf (partOf rows marks a)) a (plan (roadsOf N) a)) (getD labels tail 0)) →
+        OnArc N labels a arrived
+    on-closed-arc is =
+        on-arc _ (is ∙ ap (tickAndInterval? (N .fences)) (part-drive (roadsOf N) rows marked few a (placed .has-arc .few-arcs) are (getD labels tail 0)))
+
+    pub on-open-arc : (endOf (markOf marks a) ≡ 0) ⊎ (length rows ≡ 0) → {arrived : Option (ℕ × ℕ)} →
+        arrived ≡ tickAndInterval? (N .fences) (arrivalBy (roadsOf N) a (plan (roadsOf N) a) (getD labels tail 0)) → OnArc N labels a arrived
+    on-open-arc no-record is =
+        on-arc _ (is ∙ ap (tickAndInterval? (N .fences)) (open-drive (roadsOf N) rows marked few a (placed .has-arc .few-arcs) are no-record (getD labels tail 0)))

@@ -1,10 +1,10 @@
--- Marks: row by row each record is in the part of its arc, and stays in it. An arc without a part is closed at no tick, so that its plan alone decides; and
--- the records of its part close the ticks that the whole list closes.
+-- Marks: row by row each record is in the part of its arc, and stays in it. So the records of its part close the ticks that the whole list closes, and where
+-- there are none in it its plan alone decides.
 use Prim.Native.Nat.{ℕ, zero, suc, _+_, _-_, _<_, _≤_}
 use mathlib.Core.Path.{_≡_, refl, sym, ap, _∙_}
 use mathlib.Core.Bool.{Bool, true, false, cond}
 use mathlib.Core.List.{List, [], _∷_}
-use mathlib.Core.Logic.{⊎-elim, by-cases}
+use mathlib.Core.Logic.{_⊎_, ⊎-elim, by-cases, _↔_}
 use native.Mathlib.Decide.{ℕ-discrete}
 use native.Mathlib.Omega.{arith}
 use lib.Dec.{eqb}
@@ -17,7 +17,7 @@ use Rattle.model.specs.Holds.{arrivalWithHold}
 use Rattle.model.specs.Intervals.{speedAt}
 use Rattle.model.specs.Network.{Roads, arcSpeeds, speedOn, driveOf}
 use Rattle.model.specs.declared.closure.Closure.{Closure}
-use Rattle.model.proofs.Closures.{closed-when-tested}
+use Rattle.model.proofs.Closures.{closed-alike}
 use Rattle.model.proofs.Entries.{getD-all}
 use Rattle.model.proofs.Holds.{same-arrival}
 use Rattle.model.proofs.Tests.{eqb-cases}
@@ -136,73 +136,64 @@ pub part-inside : (rows : List (List ℕ)) {marks : List (List ℕ)} → Marked 
     (startOf (markOf marks a) ≤ endOf (markOf marks a)) × (endOf (markOf marks a) ≤ length rows) × (endOf (markOf marks a) ≤ maxClosures)
 part-inside rows marked a = (marked .in-order a, omega (arith, marked .in-list a, length-map rows closureOf), marked .in-bytes a)
 
-same-truth : (a b : Bool) → (a ≡ true → b ≡ true) → (b ≡ true → a ≡ true) → a ≡ b
-same-truth true b to from = sym (to refl)
-same-truth false true to from = from refl
-same-truth false false to from = refl
+-- The rows of an arc's part.
+abbrev pub partOf : List (List ℕ) → List (List ℕ) → ℕ → List (List ℕ)
+partOf rows marks a = take (endOf (markOf marks a) - startOf (markOf marks a)) (drop (startOf (markOf marks a)) rows)
 
-module _ (rows : List (List ℕ)) (marks : List (List ℕ)) (marked : Marked (closuresOf rows) marks) (few : length (closuresOf rows) ≤ maxClosures) (a : ℕ) (is-arc : a < maxArcs) where
-  -- An arc without a part is closed at no tick.
-  pub unmarked-open : endOf (markOf marks a) ≡ 0 → (t : ℕ) → closed? (closuresOf rows) a t ≡ false
-  unmarked-open none t = go (closed? (closuresOf rows) a t) refl
-    where
-      go : (closed : Bool) → closed? (closuresOf rows) a t ≡ closed → closed ≡ false
-      go true e =
-          let (k, inside, closes) = closed-when-tested (closuresOf rows) a t .0 e in
-          let its = closes .its-arc in
-          absurd (omega (arith, none, (rw its at (marked .in-part few k inside (omega (arith, its)))) .1))
-      go false e = refl
+-- The arc's speeds by its plan, and the arrival by any speeds.
+abbrev pub plan : Roads → ℕ → ℕ → ℕ
+plan R a = speedAt (R .fences) (arcSpeeds R a)
+
+abbrev pub arrivalBy : Roads → ℕ → (ℕ → ℕ) → ℕ → ℕ
+arrivalBy R a v t = arrivalWithHold v (spansOf (getD (R .lengths) a 0)) (getD (R .holds) a 0) t
+
+module _ (R : Roads) (rows : List (List ℕ)) {marks : List (List ℕ)} (marked : Marked (closuresOf rows) marks) (few : length (closuresOf rows) ≤ maxClosures)
+    (a : ℕ) (is-arc : a < maxArcs) (are : R .closures ≡ closuresOf rows) where
+  abbrev start : ℕ
+  start = startOf (markOf marks a)
+
+  abbrev size : ℕ
+  size = endOf (markOf marks a) - start
 
   abbrev part : List (List ℕ)
-  part = take (endOf (markOf marks a) - startOf (markOf marks a)) (drop (startOf (markOf marks a)) rows)
+  part = partOf rows marks a
 
-  part-length : length part ≡ endOf (markOf marks a) - startOf (markOf marks a)
-  part-length = simp (length-take, length-drop) (omega (arith, marked .in-list a, length-map rows closureOf))
+  part-length : length (closuresOf part) ≡ size
+  part-length = length-map part closureOf ∙ simp (length-take, length-drop) (omega (arith, part-inside rows marked a .1))
 
-  entry : (k : ℕ) → k < endOf (markOf marks a) - startOf (markOf marks a) →
-      getD (closuresOf part) k noClosure ≡ getD (closuresOf rows) (startOf (markOf marks a) + k) noClosure
+  entry : (k : ℕ) → k < size → getD (closuresOf part) k noClosure ≡ getD (closuresOf rows) (start + k) noClosure
   entry k within =
       List·getD-map closureOf part k []
-      ∙ (ap closureOf (getD-take _ (drop (startOf (markOf marks a)) rows) k [] within ∙ getD-drop (startOf (markOf marks a)) rows k [])
-      ∙ sym (List·getD-map closureOf rows (startOf (markOf marks a) + k) []))
+      ∙ (ap closureOf (getD-take _ (drop start rows) k [] within ∙ getD-drop start rows k []) ∙ sym (List·getD-map closureOf rows (start + k) []))
 
   -- The records of its part close what the list closes.
-  pub part-closes : (t : ℕ) → closed? (closuresOf part) a t ≡ closed? (closuresOf rows) a t
-  part-closes t = same-truth _ _ (λ e. closed-when-tested (closuresOf rows) a t .1 (from-part (closed-when-tested (closuresOf part) a t .0 e)))
-      (λ e. closed-when-tested (closuresOf part) a t .1 (from-list (closed-when-tested (closuresOf rows) a t .0 e)))
+  part-closes : (t : ℕ) → Closed (closuresOf part) a t ↔ Closed (closuresOf rows) a t
+  part-closes t = (from-part, from-list)
     where
       from-part : Closed (closuresOf part) a t → Closed (closuresOf rows) a t
       from-part (k, inside, closes) =
-          let at = startOf (markOf marks a) + k in
-          let is : getD (closuresOf part) k noClosure ≡ getD (closuresOf rows) at noClosure = entry k (omega (arith, inside, length-map part closureOf, part-length)) in
-          (at, omega (arith, inside, length-map part closureOf, part-length, marked .in-order a, marked .in-list a), rw is at closes)
+          (start + k, omega (arith, inside, part-length, marked .in-order a, marked .in-list a), rw (entry k (omega (arith, inside, part-length))) at closes)
 
       from-list : Closed (closuresOf rows) a t → Closed (closuresOf part) a t
       from-list (k, inside, closes) =
           let its = closes .its-arc in
           let (from, to) = rw its at (marked .in-part few k inside (omega (arith, its, is-arc))) in
-          let at = k - startOf (markOf marks a) in
-          let there : startOf (markOf marks a) + at ≡ k = omega (arith, from) in
-          let within : at < endOf (markOf marks a) - startOf (markOf marks a) = omega (arith, from, to) in
-          let is : getD (closuresOf part) at noClosure ≡ getD (closuresOf rows) (startOf (markOf marks a) + at) noClosure = entry at within in
-          (at, omega (arith, within, length-map part closureOf, part-length), rw (is, there) closes)
+          let there : start + (k - start) ≡ k = omega (arith, from) in
+          let within : k - start < size = omega (arith, from, to) in
+          (k - start, omega (arith, within, part-length), rw (entry (k - start) within, there) closes)
 
--- Nor is one where there are no records.
-pub none-open : (rows : List (List ℕ)) → length rows ≡ 0 → (a t : ℕ) → closed? (closuresOf rows) a t ≡ false
-unfolding closed?
-none-open [] none a t = refl
-none-open (row ∷ rows) none a t = absurd (omega arith)
+  -- So they decide its drive.
+  pub part-drive : (t : ℕ) → arrivalBy R a (withClosures (closuresOf part) a (plan R a)) t ≡ driveOf R a t
+  unfolding driveOf speedOn
+  part-drive t = same-arrival _ _ _ _ t (λ u. rw are (closed-alike (closuresOf part) (closuresOf rows) a u (plan R a) (part-closes u)))
 
--- The plan alone decides the drive on an arc that is closed at no tick.
-pub open-drive : (R : Roads) (a : ℕ) → ((t : ℕ) → closed? (R .closures) a t ≡ false) → (t : ℕ) →
-    arrivalWithHold (speedAt (R .fences) (arcSpeeds R a)) (spansOf (getD (R .lengths) a 0)) (getD (R .holds) a 0) t ≡ driveOf R a t
-unfolding driveOf speedOn withClosures
-open-drive R a is-open t =
-    same-arrival _ _ _ _ t (λ u. sym (ap (λ closed. cond closed 0 (speedAt (R .fences) (arcSpeeds R a) u)) (is-open u)))
+  -- Where there are none in it, its plan alone does.
+  pub open-drive : (endOf (markOf marks a) ≡ 0) ⊎ (length rows ≡ 0) → (t : ℕ) → arrivalBy R a (plan R a) t ≡ driveOf R a t
+  unfolding withClosures closed?
+  open-drive none t = same-arrival _ _ _ _ t (λ u. sym (none-closed u)) ∙ part-drive t
+    where
+      none-in-part : size ≡ 0
+      none-in-part = ⊎-elim (λ is. omega (arith, is)) (λ is. omega (arith, is, part-inside rows marked a .1)) none
 
--- And on any other the records of its part decide it.
-pub part-drive : (R : Roads) (a : ℕ) (closures : List Closure) → ((t : ℕ) → closed? closures a t ≡ closed? (R .closures) a t) → (t : ℕ) →
-    arrivalWithHold (withClosures closures a (speedAt (R .fences) (arcSpeeds R a))) (spansOf (getD (R .lengths) a 0)) (getD (R .holds) a 0) t ≡ driveOf R a t
-unfolding driveOf speedOn withClosures
-part-drive R a closures same t =
-    same-arrival _ _ _ _ t (λ u. ap (λ closed. cond closed 0 (speedAt (R .fences) (arcSpeeds R a) u)) (same u))
+      none-closed : (u : ℕ) → withClosures (closuresOf part) a (plan R a) u ≡ plan R a u
+      none-closed u = rw none-in-part

@@ -4,8 +4,8 @@ use Prim.Native.Nat.{ℕ, zero, suc, _+_, _≤_, _<_}
 use mathlib.Core.Path.{_≡_, refl, _∙_}
 use mathlib.Core.Bool.{Bool, true, false, cond, or-true}
 use mathlib.Core.List.{List, [], _∷_}
-use mathlib.Core.Logic.{⊎-elim}
-use native.Mathlib.Nat.{mul-zero}
+use mathlib.Core.Logic.{⊎-elim, _↔_}
+use native.Mathlib.Nat.{mul-zero, le-refl, le-antisymm}
 use native.Mathlib.Omega.{arith}
 use lib.Dec.{leb, ltb, eqb}
 use lib.ListN.{length, getD}
@@ -64,6 +64,11 @@ closed-no-faster first second a t v w no-more slower = go (closed? second a t) r
     go : (closed : Bool) → closed? second a t ≡ closed → cond (closed? first a t) 0 (v t) ≤ cond closed 0 (w t)
     go true e = rw (closed-when-tested first a t .1 (no-more (closed-when-tested second a t .0 e))) (omega arith)
     go false e = omega (arith, zero-or (closed? first a t) (v t), slower)
+
+-- Where both close the same, they are as fast.
+pub closed-alike : (first second : List Closure) (a t : ℕ) (v : ℕ → ℕ) → Closed first a t ↔ Closed second a t → withClosures first a v t ≡ withClosures second a v t
+closed-alike first second a t v alike =
+    le-antisymm (closed-no-faster first second a t v v (alike .1) (le-refl (v t))) (closed-no-faster second first a t v v (alike .0) (le-refl (v t)))
 
 pub stands-while-closed : StandsWhileClosed
 unfolding withClosures

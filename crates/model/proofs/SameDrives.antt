@@ -4,7 +4,6 @@ use Prim.Native.Nat.{ℕ, zero, suc}
 use mathlib.Core.Path.{_≡_, refl, ap}
 use mathlib.Core.List.{List, reverse}
 use mathlib.Core.Logic.{_↔_}
-use native.Mathlib.Nat.{le-refl, le-antisymm}
 use lib.ListN.{getD}
 use Rattle.model.specs.Ticks.{never}
 use Rattle.model.specs.Closures.{Closed}
@@ -14,7 +13,7 @@ use Rattle.model.specs.Network.{Network, closedBy, roadsOf, speedOn, dri
 use Rattle.model.specs.Routes.{arcsBack, routeOf, ClosuresAreUnion}
 use Rattle.model.specs.declared.closure.Closure.{Closure}
 use Rattle.model.proofs.Holds.{same-arrival}
-use Rattle.model.proofs.Closures.{closed-no-faster}
+use Rattle.model.proofs.Closures.{closed-alike}
 
 -- ---- Nets that differ in their drives' names alone
 
@@ -60,12 +59,7 @@ module _ (junctions arcs : ℕ) (tail head : ℕ → ℕ) (d e : ℕ → ℕ →
 module _ (N : Network) (closures : List Closure) (alike : (a t : ℕ) → Closed (N .closures) a t ↔ Closed closures a t) where
   same-drive : (a t : ℕ) → driveOf (roadsOf N) a t ≡ driveOf (roadsOf (closedBy N closures)) a t
   unfolding driveOf speedOn
-  same-drive a t =
-      same-arrival _ _ _ _ t
-      (λ u.
-      le-antisymm
-      (closed-no-faster (N .closures) closures a u _ _ (alike a u .1) (le-refl _))
-      (closed-no-faster closures (N .closures) a u _ _ (alike a u .0) (le-refl _)))
+  same-drive a t = same-arrival _ _ _ _ t (λ u. closed-alike (N .closures) closures a u _ (alike a u))
 
 pub closures-are-union : ClosuresAreUnion
 closures-are-union N closures alike source departure =

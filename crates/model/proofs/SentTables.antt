@@ -1,18 +1,18 @@
--- Tables that are right. Their labels are the earliest arrivals, of which there is one table; it is certified with the lowest predecessors, and of the
--- conditions only those on each junction speak of predecessors. Conversely certified tables have the earliest arrivals.
+-- Tables that are right pass the test, what passes it is certified, and what is certified is right. The labels of the first two are the earliest arrivals, of
+-- which there is one table; no arc would lower them. Certified labels are the earliest arrivals by the certificate.
 use Prim.Native.Nat.{ℕ, zero, suc, _≤_, _<_}
 use mathlib.Core.Path.{_≡_, refl, sym, ap, _∙_}
-use mathlib.Core.Bool.{Bool, true, false, _&&_, _||_, cond}
+use mathlib.Core.Bool.{true}
 use mathlib.Core.List.{List}
 use mathlib.Core.Logic.{_⊎_, inl, inr, ⊎-elim, by-cases}
 use native.Mathlib.Decide.{ℕ-discrete}
 use native.Mathlib.Omega.{arith}
-use lib.Dec.{ltb, eqb}
+use lib.Dec.{ltb}
 use lib.ListN.{getD}
 use lib.Seq.{ext-getD}
 use borrow.Author.Tests.{ltb-true, lt-ltb, eqb-true, eq-eqb, ne-eqb}
 use Rattle.model.specs.Ticks.{never}
-use Rattle.model.specs.Walks.{Net, Earliest}
+use Rattle.model.specs.Walks.{Net}
 use Rattle.model.specs.Labels.{noArc, labelsOf, attains, same?, Attains, Certified}
 use Rattle.model.specs.SentTables.{predecessorRight?, predecessorsRight?, tablesRight?, TablesRight, Sent, RightWhenTested, RightWhenCertified}
 use Rattle.model.proofs.Certificate.{certified-earliest}
@@ -24,33 +24,33 @@ use Rattle.model.proofs.Walks.{earliest-unique, earliest-at-most-never}
 
 -- ---- Predecessors
 
--- What is asked of a junction's predecessor, in plain words.
-pub data Predecessor (N : Net) (source : ℕ) (labels : List ℕ) (j a : ℕ) : Type 0 where
-  of-source : j ≡ source → a ≡ noArc → Predecessor N source labels j a
-  of-unreached : getD labels j never ≡ never → a ≡ noArc → Predecessor N source labels j a
-  attaining : (j ≡ source → ⊥) → Attains N labels j a → Predecessor N source labels j a
+-- What `Certified` asks of a junction other than the source.
+abbrev Other : Net → List ℕ → ℕ → ℕ → Type 0
+Other N labels j a = ((getD labels j never ≡ never) × (a ≡ noArc)) ⊎ Attains N labels j a
 
 module _ (N : Net) (source : ℕ) (labels : List ℕ) (j a : ℕ) where
-  predecessor-tested : getD labels j never ≤ never → predecessorRight? N source labels j a ≡ true → Predecessor N source labels j a
+  source-tested : j ≡ source → predecessorRight? N source labels j a ≡ true → a ≡ noArc
   unfolding predecessorRight?
-  predecessor-tested at-most e = go (ℕ-discrete j source) (ℕ-discrete (getD labels j never) never)
-    where
-      go : Dec (j ≡ source) → Dec (getD labels j never ≡ never) → Predecessor N source labels j a
-      go (yes same) unreached = of-source same (eqb-true a noArc (rw (eq-eqb j source same) at e))
-      go (no other) (yes unreached) = of-unreached unreached (eqb-true a noArc (rw (ne-eqb j source other, eq-eqb (getD labels j never) never unreached) at e))
-      go (no other) (no reached) =
-          let (is-arc, test) = true-both (ltb a (N .arcs)) (attains N labels j a) (rw (ne-eqb j source other, ne-eqb (getD labels j never) never reached) at e) in
-          attaining other (test-attains N labels j (ltb-true a (N .arcs) is-arc) (omega (arith, at-most, reached)) test)
+  source-tested same e = eqb-true a noArc (rw (eq-eqb j source same) at e)
 
-  predecessor-test : Predecessor N source labels j a → predecessorRight? N source labels j a ≡ true
+  other-tested : (j ≡ source → ⊥) → getD labels j never ≤ never → predecessorRight? N source labels j a ≡ true → Other N labels j a
   unfolding predecessorRight?
-  predecessor-test (of-source same mark) = rw (eq-eqb j source same) (eq-eqb a noArc mark)
-  predecessor-test (of-unreached unreached mark) = rw (eq-eqb (getD labels j never) never unreached) (go (eqb j source))
+  other-tested other at-most e = go (ℕ-discrete (getD labels j never) never)
     where
-      go : (b : Bool) → cond (b || true) (eqb a noArc) (ltb a (N .arcs) && attains N labels j a) ≡ true
-      go true = eq-eqb a noArc mark
-      go false = eq-eqb a noArc mark
-  predecessor-test (attaining other at) =
+      go : Dec (getD labels j never ≡ never) → Other N labels j a
+      go (yes unreached) = inl (unreached, eqb-true a noArc (rw (ne-eqb j source other, eq-eqb (getD labels j never) never unreached) at e))
+      go (no reached) =
+          let (is-arc, test) = true-both (ltb a (N .arcs)) (attains N labels j a) (rw (ne-eqb j source other, ne-eqb (getD labels j never) never reached) at e) in
+          inr (test-attains N labels j (ltb-true a (N .arcs) is-arc) (omega (arith, at-most, reached)) test)
+
+  source-tests : j ≡ source → a ≡ noArc → predecessorRight? N source labels j a ≡ true
+  unfolding predecessorRight?
+  source-tests same mark = rw (eq-eqb j source same) (eq-eqb a noArc mark)
+
+  other-tests : (j ≡ source → ⊥) → Other N labels j a → predecessorRight? N source labels j a ≡ true
+  unfolding predecessorRight?
+  other-tests other (inl (unreached, mark)) = rw (ne-eqb j source other, eq-eqb (getD labels j never) never unreached) (eq-eqb a noArc mark)
+  other-tests other (inr at) =
       rw (ne-eqb j source other, ne-eqb (getD labels j never) never (λ unreached. omega (arith, at .reached)))
       (both-true (lt-ltb a (N .arcs) (at .is-arc)) (attains-test N labels j at))
 
@@ -77,71 +77,37 @@ module _ {N : Net} {source departure : ℕ} {labels predecessors : List ℕ} (s 
       ext-getD never labels (labelsOf N source departure) (s .labels-long ∙ sym (labels-length N source departure)) λ j h.
       earliest-unique (right .labels-right) (labels-are-earliest N (s .sound) source departure (s .source-inside) (s .departs)) j (omega (arith, s .labels-long))
 
-  right-predecessor : TablesRight N source departure labels predecessors → (j : ℕ) → j < N .junctions → Predecessor N source labels j (getD predecessors j noArc)
-  right-predecessor right j is-junction = go (ℕ-discrete j source) (ℕ-discrete (getD labels j never) never)
-    where
-      go : Dec (j ≡ source) → Dec (getD labels j never ≡ never) → Predecessor N source labels j (getD predecessors j noArc)
-      go (yes same) unreached = of-source same (rw same (right .source-mark))
-      go (no other) (yes unreached) = of-unreached unreached (right .unreached-mark j is-junction unreached)
-      go (no other) (no reached) = attaining other (right .attained j is-junction other reached)
-
+  -- Right tables pass the test,
   right-test : TablesRight N source departure labels predecessors → tablesRight? N source departure labels predecessors ≡ true
   unfolding tablesRight?
   right-test right =
       both-true (ap (same? labels) (sym (right-labels right)) ∙ same-itself labels)
-      (predecessors-test N source labels predecessors (N .junctions) (λ j is-junction. predecessor-test N source labels j _ (right-predecessor right j is-junction)))
+      (predecessors-test N source labels predecessors (N .junctions) λ j is-junction.
+      by-cases (ℕ-discrete j source)
+      (λ same. source-tests N source labels j _ same (rw same (right .source-mark)))
+      (λ other. other-tests N source labels j _ other (by-cases (ℕ-discrete (getD labels j never) never)
+      (λ unreached. inl (unreached, right .unreached-mark j is-junction unreached))
+      (λ reached. inr (right .attained j is-junction other reached)))))
 
-  tested-right : tablesRight? N source departure labels predecessors ≡ true → TablesRight N source departure labels predecessors
+  -- tables that pass it are certified,
+  tested-certified : tablesRight? N source departure labels predecessors ≡ true → Certified N source departure labels predecessors
   unfolding tablesRight?
-  tested-right e =
+  tested-certified e =
       let (same, each) = true-both _ _ e in
       let earliest = rw (← same-tables labels (labelsOf N source departure) same) at (labels-are-earliest N (s .sound) source departure (s .source-inside) (s .departs)) in
-      record {
-        labels-right = earliest;
-        attained = λ j is-junction other reached. of-other j is-junction other reached (its earliest each j is-junction);
-        unreached-mark = λ j is-junction unreached. marked j unreached (its earliest each j is-junction);
-        source-mark = marked-source (its earliest each source (s .source-inside));
-      }
-    where
-      its : Earliest N source departure (λ j. getD labels j never) → predecessorsRight? N source labels predecessors (N .junctions) ≡ true →
-          (j : ℕ) → j < N .junctions → Predecessor N source labels j (getD predecessors j noArc)
-      its earliest each j is-junction =
-          predecessor-tested N source labels j _ (earliest-at-most-never (s .departs) earliest j is-junction)
-          (predecessors-tested N source labels predecessors (N .junctions) each j is-junction)
-
-      of-other : (j : ℕ) → j < N .junctions → (j ≡ source → ⊥) → (getD labels j never ≡ never → ⊥) → Predecessor N source labels j (getD predecessors j noArc) →
-          Attains N labels j (getD predecessors j noArc)
-      of-other j is-junction other reached (of-source same mark) = absurd (other same)
-      of-other j is-junction other reached (of-unreached unreached mark) = absurd (reached unreached)
-      of-other j is-junction other reached (attaining _ at) = at
-
-      marked : (j : ℕ) → getD labels j never ≡ never → Predecessor N source labels j (getD predecessors j noArc) → getD predecessors j noArc ≡ noArc
-      marked j unreached (of-source same mark) = mark
-      marked j unreached (of-unreached _ mark) = mark
-      marked j unreached (attaining other at) = absurd (omega (arith, at .reached))
-
-      marked-source : Predecessor N source labels source (getD predecessors source noArc) → getD predecessors source noArc ≡ noArc
-      marked-source (of-source same mark) = mark
-      marked-source (of-unreached unreached mark) = mark
-      marked-source (attaining other at) = absurd (other refl)
-
-  right-certified : TablesRight N source departure labels predecessors → Certified N source departure labels predecessors
-  right-certified right =
-      let lowest = earliest-certified N (s .sound) source departure (s .departs) labels (right .labels-right) (s .source-inside) (s .labels-long) in
+      let lowest = earliest-certified N (s .sound) source departure (s .departs) labels earliest (s .source-inside) (s .labels-long) in
+      let its = predecessors-tested N source labels predecessors (N .junctions) each in
       record {
         labels-long = s .labels-long;
         predecessors-long = s .predecessors-long;
         source-label = lowest .source-label;
-        source-predecessor = right .source-mark;
+        source-predecessor = source-tested N source labels source _ refl (its source (s .source-inside));
         no-lower = lowest .no-lower;
-        others = λ j is-junction other. go j is-junction other (ℕ-discrete (getD labels j never) never);
+        others = λ j is-junction other.
+            other-tested N source labels j _ other (earliest-at-most-never (s .departs) earliest j is-junction) (its j is-junction);
       }
-    where
-      go : (j : ℕ) → j < N .junctions → (j ≡ source → ⊥) → Dec (getD labels j never ≡ never) →
-          ((getD labels j never ≡ never) × (getD predecessors j noArc ≡ noArc)) ⊎ Attains N labels j (getD predecessors j noArc)
-      go j is-junction other (yes unreached) = inl (unreached, right .unreached-mark j is-junction unreached)
-      go j is-junction other (no reached) = inr (right .attained j is-junction other reached)
 
+  -- and certified tables are right.
   certified-right : Certified N source departure labels predecessors → TablesRight N source departure labels predecessors
   certified-right certified = record {
     labels-right = certified-earliest (s .sound) (s .departs) certified;
@@ -155,7 +121,7 @@ module _ {N : Net} {source departure : ℕ} {labels predecessors : List ℕ} (s 
       go j is-junction unreached (no other) = ⊎-elim (λ marks. marks .1) (λ at. absurd (omega (arith, at .reached))) (certified .others j is-junction other)
 
 pub right-when-tested : RightWhenTested
-right-when-tested N source departure labels predecessors s = (tested-right s, right-test s)
+right-when-tested N source departure labels predecessors s = ((λ e. certified-right s (tested-certified s e)), right-test s)
 
 pub right-when-certified : RightWhenCertified
-right-when-certified N source departure labels predecessors s = (right-certified s, certified-right s)
+right-when-certified N source departure labels predecessors s = ((λ right. tested-certified s (right-test s right)), certified-right s)

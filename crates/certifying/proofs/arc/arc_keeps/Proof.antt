@@ -2,10 +2,9 @@
 -- closed at no tick. What driving came to decides.
 use borrow.Author.Needs.{needs}
 use Prim.Native.Nat.{ℕ, _≤_}
-use mathlib.Core.Bool.{false}
-use mathlib.Core.Logic.{⊎-elim}
+use mathlib.Core.Logic.{_⊎_, inl, inr, ⊎-elim}
 use mathlib.Core.Option.{Option}
-use mathlib.Core.Path.{_≡_, sym, ap, _∙_}
+use mathlib.Core.Path.{_≡_, refl, sym, ap, _∙_}
 use native.Mathlib.Nat.{add-sub-cancel-left}
 use native.Mathlib.Omega.{arith}
 use mir.Facts.{fits-widen}
@@ -15,15 +14,14 @@ use denote.Ref.{now}
 use Rattle.model.specs.Ticks.{arrivedAt}
 use Rattle.model.specs.declared.tick.Arrival.{Arrival}
 use Rattle.model.specs.Lent.{networkIn, closuresIn}
-use Rattle.model.specs.Closures.{maxClosures, closed?}
-use Rattle.model.specs.Intervals.{tickAndInterval?}
-use Rattle.model.specs.Network.{Network, roadsOf, speedsOf}
+use Rattle.model.specs.Closures.{maxClosures}
+use Rattle.model.specs.Network.{Network, speedsOf}
 use Rattle.driving.specs.ArcKept.{ArcKept}
 use Rattle.driving.proofs.Driving.{kept-inside}
 use Rattle.closed_arcs.specs.FromLabels.{OnArc}
-use Rattle.closed_arcs.proofs.FromLabels.{Placed, placed, none-lowered, tail-kept, on-arc}
+use Rattle.closed_arcs.proofs.FromLabels.{Placed, placed, none-lowered, tail-kept, on-closed-arc, on-open-arc}
 use Rattle.closed_arcs.specs.Marks.{startOf, endOf, markOf}
-use Rattle.closed_arcs.proofs.Marks.{unmarked-open, none-open, open-drive, part-inside, part-closes, part-drive}
+use Rattle.closed_arcs.proofs.Marks.{part-inside}
 use Rattle.certifying.specs.code.Certifying.{Decides, comesTo?, Keeps}
 use Rattle.certifying.proofs.Deciding.{arc-decides}
 use Rattle.certifying.proofs.arc.arc_keeps.Statement.{statement}
@@ -41,19 +39,15 @@ at : (s : tie.Start) → Placed (N s) (now (s .args .labels)) (s .args .arc)
 at s = placed (s .pre .0) (s .pre .1 .1 .0)
 
 -- what driving came to decides
-decides : (s : tie.Start) {arrived : Option (ℕ × ℕ)} → OnArc (N s) (now (s .args .labels)) (s .args .arc) arrived →
+abbrev Told : tie.Start → Option (ℕ × ℕ) → Type 0
+Told s arrived =
     let args = s .args in
     let head = getD (now (args .heads)) (args .arc) 0 in
     Decides (Keeps (N s) (now (args .labels)) (now (args .predecessors)) (args .arc))
     (comesTo? arrived (getD (now (args .labels)) head 0) (eqb (getD (now (args .predecessors)) head 0) (args .arc)))
-decides s = arc-decides (s .pre .0) (s .pre .1 .1 .0) _ (s .pre .1 .0)
 
-abbrev Told : tie.Start → Arrival → Type 0
-Told s case =
-    let args = s .args in
-    let head = getD (now (args .heads)) (args .arc) 0 in
-    Decides (Keeps (N s) (now (args .labels)) (now (args .predecessors)) (args .arc))
-    (comesTo? (arrivedAt case) (getD (now (args .labels)) head 0) (eqb (getD (now (args .predecessors)) head 0) (args .arc)))
+decides : (s : tie.Start) {arrived : Option (ℕ × ℕ)} → OnArc (N s) (now (s .args .labels)) (s .args .arc) arrived → Told s arrived
+decides s = arc-decides (s .pre .0) (s .pre .1 .1 .0) _ (s .pre .1 .0)
 
 cast-tail : tie.Need-cast-tail
 cast-tail c = fits-widen tt (c .shared-slice-known9 .given _)
@@ -161,18 +155,15 @@ closures-end c = let begun : tie.Start = search in part begun .1
 part-closed-end : tie.Need-part-drive-closed-with-hold-end
 part-closed-end c = let begun : tie.Start = search in at begun .has-arc .has-speeds
 
--- a closed arc's drive decides, whichever case of it is told
+-- a closed arc's drive, whichever case of it is told
 closed-decides : (c : tie.After-drive-closed-with-hold) {case : Arrival} → c .drive-closed-with-hold .result ≡ case →
     let left : tie.Else1 = search in
-    Told (begun left) case
+    Told (begun left) (arrivedAt case)
 closed-decides c is =
     let left : tie.Else1 = search in
-    let args = begun left .args in
     let (timed, (_, (is-arc, marked))) = begun left .pre in
-    let R = roadsOf (N (begun left)) in
     let drove = (rw add-sub-cancel-left at (c .drive-closed-with-hold .ensures .0)) (kept left) in
-    let same = part-closes (now (args .closures)) _ marked (timed .few-closures) (args .arc) (at (begun left) .has-arc .few-arcs) in
-    decides (begun left) (on-arc timed is-arc _ (sym (ap arrivedAt is) ∙ (drove ∙ ap (tickAndInterval? (R .fences)) (part-drive R (args .arc) _ same _))))
+    decides (begun left) (on-closed-arc timed is-arc (now (begun left .args .closures)) marked refl (sym (ap arrivedAt is) ∙ drove))
 
 returns-2 : tie.Need-returns-2
 returns-2 c =
@@ -188,23 +179,17 @@ returns-3 c =
 part-end : tie.Need-part-drive-with-hold-end
 part-end c = let begun : tie.Start = search in at begun .has-arc .has-speeds
 
--- and an open one's: where there is no mark, or no closure, the plan alone decides
+-- and an open one's
 open-decides : (c : tie.After-drive-with-hold) {case : Arrival} → c .drive-with-hold .result ≡ case →
     let left : tie.Else1 = search in
-    Told (begun left) case
+    Told (begun left) (arrivedAt case)
 open-decides c is =
     let left : tie.Else1 = search in
     let joined : tie.Joined2 = search in
-    let args = begun left .args in
     let (timed, (_, (is-arc, marked))) = begun left .pre in
-    let R = roadsOf (N (begun left)) in
-    let is-open : (t : ℕ) → closed? (R .closures) (args .arc) t ≡ false = λ t.
-    ⊎-elim
-    (λ w. unmarked-open (now (args .closures)) _ marked (timed .few-closures) (args .arc) (at (begun left) .has-arc .few-arcs) (w .2 .left) t)
-    (λ w. none-open (now (args .closures)) (w .left) (args .arc) t)
-    (joined .if2 .came) in
+    let none = ⊎-elim (λ w. inl (w .2 .left)) (λ w. inr (w .left)) (joined .if2 .came) in
     let drove = (rw add-sub-cancel-left at (c .drive-with-hold .ensures .0)) (kept left) in
-    decides (begun left) (on-arc timed is-arc _ (sym (ap arrivedAt is) ∙ (drove ∙ ap (tickAndInterval? (R .fences)) (open-drive R (args .arc) is-open _))))
+    decides (begun left) (on-open-arc timed is-arc (now (begun left .args .closures)) marked refl none (sym (ap arrivedAt is) ∙ drove))
 
 returns-4 : tie.Need-returns-4
 returns-4 c =

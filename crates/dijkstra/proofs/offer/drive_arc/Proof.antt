@@ -1,21 +1,20 @@
 -- `offer::drive_arc` lends the engine the arc's part of the speeds, and its part of the closures. An arc that has none is closed at no tick, so that the
 -- engine without closures comes to the same.
 use borrow.Author.Needs.{needs}
-use Prim.Native.Nat.{ℕ, _≤_}
-use mathlib.Core.Path.{_≡_, ap, _∙_}
-use mathlib.Core.Bool.{false}
-use mathlib.Core.Logic.{⊎-elim}
+use Prim.Native.Nat.{_≤_}
+use mathlib.Core.Path.{refl, ap, _∙_}
+use mathlib.Core.Logic.{_⊎_, inl, inr, ⊎-elim}
 use native.Mathlib.Nat.{add-sub-cancel-left}
 use native.Mathlib.Omega.{arith}
 use mir.Facts.{fits-widen}
 use lib.ListN.{length}
 use denote.Ref.{now}
-use Rattle.model.specs.Closures.{maxClosures, closuresOf, closed?}
+use Rattle.model.specs.Closures.{maxClosures}
 use Rattle.model.specs.Intervals.{tickAndInterval?}
 use Rattle.model.specs.Lent.{roadsIn, closuresIn}
 use Rattle.model.specs.Network.{Roads}
 use Rattle.closed_arcs.specs.Marks.{startOf, endOf, markOf}
-use Rattle.closed_arcs.proofs.Marks.{unmarked-open, none-open, open-drive, part-inside, part-closes, part-drive}
+use Rattle.closed_arcs.proofs.Marks.{part-inside, part-drive, open-drive}
 use Rattle.dijkstra.proofs.offer.drive_arc.Statement.{statement}
 use Rattle.dijkstra.proofs.offer.drive_arc.Tie as tie
 
@@ -57,9 +56,7 @@ returns c =
     let args = begun .args in
     let drives = rw add-sub-cancel-left at (drove .drive-closed-with-hold .ensures .0) in (
       (λ few kept.
-          drives kept
-          ∙ ap (tickAndInterval? (now (args .fences)))
-          (part-drive (R begun) (args .arc) _ (part-closes (now (args .closures)) _ (begun .pre .1) few (args .arc) (begun .pre .0 .few-arcs)) (args .tick))),
+          drives kept ∙ ap (tickAndInterval? (now (args .fences))) (part-drive (R begun) (now (args .closures)) (begun .pre .1) few (args .arc) (begun .pre .0 .few-arcs) refl (args .tick))),
       drove .drive-closed-with-hold .ensures .1,
     )
 
@@ -69,13 +66,11 @@ returns-2 c =
     let begun : tie.Start = search in
     let joined : tie.Joined1 = search in
     let args = begun .args in
-    let is-open : length (closuresOf (now (args .closures))) ≤ maxClosures → (t : ℕ) → closed? (R begun .closures) (args .arc) t ≡ false = λ few t.
-    ⊎-elim
-    (λ w. unmarked-open (now (args .closures)) _ (begun .pre .1) few (args .arc) (begun .pre .0 .few-arcs) (w .2 .left) t)
-    (λ w. none-open (now (args .closures)) (w .left) (args .arc) t)
-    (joined .if1 .came) in
+    let none = ⊎-elim (λ w. inl (w .2 .left)) (λ w. inr (w .left)) (joined .if1 .came) in
     let drives = rw add-sub-cancel-left at (c .drive-with-hold .ensures .0) in (
-      (λ few kept. drives kept ∙ ap (tickAndInterval? (now (args .fences))) (open-drive (R begun) (args .arc) (is-open few) (args .tick))),
+      (λ few kept.
+          drives kept
+          ∙ ap (tickAndInterval? (now (args .fences))) (open-drive (R begun) (now (args .closures)) (begun .pre .1) few (args .arc) (begun .pre .0 .few-arcs) refl none (args .tick))),
       c .drive-with-hold .ensures .1,
     )
 

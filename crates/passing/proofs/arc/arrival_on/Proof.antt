@@ -1,10 +1,9 @@
 -- `arc::arrival_on`: the indices lie in the tables of an accepted network, and the engine is lent the arc's part of the speeds. An arc without a mark is
 -- closed at no tick.
 use borrow.Author.Needs.{needs}
-use Prim.Native.Nat.{ℕ, _≤_}
-use mathlib.Core.Bool.{false}
-use mathlib.Core.Logic.{⊎-elim}
-use mathlib.Core.Path.{_≡_, sym, ap, _∙_}
+use Prim.Native.Nat.{_≤_}
+use mathlib.Core.Logic.{_⊎_, inl, inr, ⊎-elim}
+use mathlib.Core.Path.{_≡_, refl, sym, ap, _∙_}
 use native.Mathlib.Nat.{add-sub-cancel-left}
 use native.Mathlib.Omega.{arith}
 use mir.Facts.{fits-widen}
@@ -13,15 +12,14 @@ use denote.Ref.{now}
 use Rattle.model.specs.Ticks.{arrivedAt}
 use Rattle.model.specs.declared.tick.Arrival.{Arrival}
 use Rattle.model.specs.Lent.{networkIn, closuresIn}
-use Rattle.model.specs.Closures.{maxClosures, closed?}
-use Rattle.model.specs.Intervals.{tickAndInterval?}
-use Rattle.model.specs.Network.{Network, roadsOf, speedsOf}
+use Rattle.model.specs.Closures.{maxClosures}
+use Rattle.model.specs.Network.{Network, speedsOf}
 use Rattle.driving.specs.ArcKept.{ArcKept}
 use Rattle.driving.proofs.Driving.{kept-inside}
 use Rattle.closed_arcs.specs.FromLabels.{OnArc}
 use Rattle.closed_arcs.specs.Marks.{startOf, endOf, markOf}
-use Rattle.closed_arcs.proofs.Marks.{unmarked-open, none-open, open-drive, part-inside, part-closes, part-drive}
-use Rattle.closed_arcs.proofs.FromLabels.{Placed, placed, none-lowered, tail-kept, on-arc}
+use Rattle.closed_arcs.proofs.Marks.{part-inside}
+use Rattle.closed_arcs.proofs.FromLabels.{Placed, placed, none-lowered, tail-kept, on-closed-arc, on-open-arc}
 use Rattle.passing.proofs.arc.arrival_on.Statement.{statement}
 use Rattle.passing.proofs.arc.arrival_on.Tie as tie
 
@@ -139,12 +137,9 @@ closed-on-arc : (c : tie.After-drive-closed-with-hold) {case : Arrival} → c .d
     OnArc (N (begun left)) (now (begun left .args .labels)) (begun left .args .arc) (arrivedAt case)
 closed-on-arc c is =
     let left : tie.Else1 = search in
-    let args = begun left .args in
     let (timed, (is-arc, marked)) = begun left .pre in
-    let R = roadsOf (N (begun left)) in
     let drove = (rw add-sub-cancel-left at (c .drive-closed-with-hold .ensures .0)) (kept left) in
-    let same = part-closes (now (args .closures)) _ marked (timed .few-closures) (args .arc) (at (begun left) .has-arc .few-arcs) in
-    on-arc timed is-arc _ (sym (ap arrivedAt is) ∙ (drove ∙ ap (tickAndInterval? (R .fences)) (part-drive R (args .arc) _ same _)))
+    on-closed-arc timed is-arc (now (begun left .args .closures)) marked refl (sym (ap arrivedAt is) ∙ drove)
 
 returns-2 : tie.Need-returns-2
 returns-2 c =
@@ -160,21 +155,15 @@ returns-3 c =
 part-end : tie.Need-part-drive-with-hold-end
 part-end c = let begun : tie.Start = search in at begun .has-arc .has-speeds
 
--- where there is no mark, or no closure, the plan alone decides
+-- where there is no closure in it, the plan alone decides
 returns-4 : tie.Need-returns-4
 returns-4 c =
     let left : tie.Else1 = search in
     let joined : tie.Joined2 = search in
-    let args = begun left .args in
     let (timed, (is-arc, marked)) = begun left .pre in
-    let R = roadsOf (N (begun left)) in
-    let is-open : (t : ℕ) → closed? (R .closures) (args .arc) t ≡ false = λ t.
-    ⊎-elim
-    (λ w. unmarked-open (now (args .closures)) _ marked (timed .few-closures) (args .arc) (at (begun left) .has-arc .few-arcs) (w .2 .left) t)
-    (λ w. none-open (now (args .closures)) (w .left) (args .arc) t)
-    (joined .if2 .came) in
+    let none = ⊎-elim (λ w. inl (w .2 .left)) (λ w. inr (w .left)) (joined .if2 .came) in
     let drove = (rw add-sub-cancel-left at (c .drive-with-hold .ensures .0)) (kept left) in
-    on-arc timed is-arc _ (drove ∙ ap (tickAndInterval? (R .fences)) (open-drive R (args .arc) is-open _))
+    on-open-arc timed is-arc (now (begun left .args .closures)) marked refl none drove
 
 pub arrival-on-spec : {M : Type 1} → statement M
 arrival-on-spec =

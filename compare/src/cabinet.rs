@@ -1,10 +1,11 @@
 //! The verified library's functions, with the reference's signatures.
 //!
 //! All `unsafe` of the package stands here. A lent slice crosses the boundary
-//! as its pointer and its length; the library keeps neither after the call.
+//! as its pointer and its length, a lent array as its pointer; the library
+//! keeps neither after the call.
 
 use crate::reference::limits::REFUSED;
-use crate::reference::{Arrival, Closure, Counts, LoadRefusal, Network, Refusal};
+use crate::reference::{Arrival, Closure, Counts, Lists, LoadRefusal, Network, Refusal, Versions};
 
 mod exports {
     use crate::reference::Closure;
@@ -194,6 +195,27 @@ mod exports {
         ) -> u64;
 
         pub fn exports_name(text: *const u8, text_length: usize, junction: u32) -> u64;
+
+        pub fn exports_week_new(
+            masks: *const u8,
+            mask_count: usize,
+            versions: *mut u16,
+            lists: *mut u8,
+        ) -> u32;
+
+        pub fn exports_week_change(
+            masks: *const u8,
+            mask_count: usize,
+            versions: *mut u16,
+            lists: *mut u8,
+        ) -> u32;
+
+        pub fn exports_week_plan(
+            versions: *const u16,
+            lists: *const u8,
+            version: u32,
+            day: u32,
+        ) -> u32;
 
         pub fn cabinet_host_question(
             text: *const u8,
@@ -468,6 +490,50 @@ pub fn name(text: &[u8], junction: u32) -> &[u8] {
     let answer = unsafe { exports::exports_name(text.as_ptr(), text.len(), junction) };
     let (start, length) = halves(answer);
     &text[start as usize..][..length as usize]
+}
+
+pub fn week_new(masks: &[u8], versions: &mut Versions, lists: &mut Lists) -> Result<u32, Refusal> {
+    // SAFETY: the first pointer and length belong to one slice lent for the call; the others
+    // are those of arrays of the agreed lengths, for writing and to nobody else.
+    let answer = unsafe {
+        exports::exports_week_new(
+            masks.as_ptr(),
+            masks.len(),
+            versions.as_mut_ptr(),
+            lists.as_mut_ptr(),
+        )
+    };
+    decoded(answer)
+}
+
+pub fn week_change(
+    masks: &[u8],
+    versions: &mut Versions,
+    lists: &mut Lists,
+) -> Result<u32, Refusal> {
+    // SAFETY: the first pointer and length belong to one slice lent for the call; the others
+    // are those of arrays of the agreed lengths, for writing and to nobody else.
+    let answer = unsafe {
+        exports::exports_week_change(
+            masks.as_ptr(),
+            masks.len(),
+            versions.as_mut_ptr(),
+            lists.as_mut_ptr(),
+        )
+    };
+    decoded(answer)
+}
+
+pub fn week_plan(
+    versions: &Versions,
+    lists: &Lists,
+    version: u32,
+    day: u32,
+) -> Result<u32, Refusal> {
+    // SAFETY: each pointer is that of an array of the agreed length lent for the call.
+    let answer =
+        unsafe { exports::exports_week_plan(versions.as_ptr(), lists.as_ptr(), version, day) };
+    decoded(answer)
 }
 
 pub fn host_question(text: &[u8], source: u32, departure: u32, destination: u32) -> u32 {

@@ -27,7 +27,7 @@ pub struct Check {
     pub refuses: &'static [RangeInclusive<u32>],
 }
 
-pub const CHECKS: [&Check; 52] = [
+pub const CHECKS: [&Check; 64] = [
     &cases::NETWORK_CHECK,
     &cases::ARC_ARRIVAL,
     &cases::LABELS,
@@ -43,6 +43,9 @@ pub const CHECKS: [&Check; 52] = [
     &cases::TO_OLD,
     &cases::TO_NEW_PROGRAM,
     &cases::TO_OLD_PROGRAM,
+    &cases::WEEK_NEW,
+    &cases::WEEK_CHANGE,
+    &cases::WEEK_PLAN,
     &properties::NON_PASSING,
     &properties::ARC_BY_TICKS,
     &properties::LABELS_BY_WALKS,
@@ -80,6 +83,15 @@ pub const CHECKS: [&Check; 52] = [
     &properties::CONVERTED_TOWN,
     &properties::COMMENTS_ADDED,
     &properties::REFUSED_AS_LOADED,
+    &properties::PLAN_OF_EACH_DAY,
+    &properties::STORE_BY_HISTORY,
+    &properties::EARLIER_VERSIONS,
+    &properties::OWN_SLOT,
+    &properties::REFUSED_WEEKS,
+    &properties::MADE_ANEW,
+    &properties::EMPTY_SLOTS,
+    &properties::PLANS_SHUFFLED,
+    &properties::VERSIONS_MOVED,
 ];
 
 /// What a case came to, for counting.
@@ -87,7 +99,8 @@ pub const CHECKS: [&Check; 52] = [
 pub enum Outcome {
     Answered,
     /// The arc cannot be driven, there is no name, the tables are not right, or midnight, the
-    /// holds, the closures, their parties or the arcs' numbers make no difference.
+    /// holds, the closures, their parties, the arcs' numbers or a store's size make no
+    /// difference.
     Nothing,
     Refused(Refusal),
 }

@@ -1,4 +1,5 @@
-//! Networks, closures, tables and town files to ask about, the same on every machine.
+//! Networks, closures, tables, town files and stores of week lists to ask about, the same on
+//! every machine.
 
 pub mod closures;
 pub mod damage;
@@ -9,6 +10,7 @@ mod random;
 pub mod tables;
 pub mod texts;
 pub mod towns;
+pub mod weeks;
 
 pub use networks::OwnedNetwork;
 pub use random::Random;

@@ -1,6 +1,8 @@
 //! One implementation of the operations as a table of functions.
 
-use crate::reference::{Arrival, Closure, Counts, Form, LoadRefusal, Network, Refusal};
+use crate::reference::{
+    Arrival, Closure, Counts, Form, Lists, LoadRefusal, Network, Refusal, Versions,
+};
 use crate::{cabinet, reference};
 
 /// Takes a text and a lent output, and returns the result's length.
@@ -27,6 +29,10 @@ pub type TablesCheck = fn(
     labels: &[u32],
     predecessors: &[u16],
 ) -> Result<bool, Refusal>;
+
+/// Takes a week list and a lent store, and returns the version made.
+pub type WeekWriter =
+    fn(masks: &[u8], versions: &mut Versions, lists: &mut Lists) -> Result<u32, Refusal>;
 
 #[expect(clippy::type_complexity, reason = "the signatures are the operations'")]
 pub struct Operations {
@@ -67,6 +73,11 @@ pub struct Operations {
     pub host_question: fn(&[u8], u32, u32, u32) -> u32,
     pub to_new: Converter,
     pub to_old: Converter,
+    pub week_new: WeekWriter,
+    pub week_change: WeekWriter,
+    /// Returns the plan's place.
+    pub week_plan:
+        fn(versions: &Versions, lists: &Lists, version: u32, day: u32) -> Result<u32, Refusal>,
 }
 
 impl Operations {
@@ -92,6 +103,9 @@ pub const REFERENCE: Operations = Operations {
     host_question: reference::host_question,
     to_new: reference::to_new,
     to_old: reference::to_old,
+    week_new: reference::week_new,
+    week_change: reference::week_change,
+    week_plan: reference::week_plan,
 };
 
 pub const CABINET: Operations = Operations {
@@ -107,4 +121,7 @@ pub const CABINET: Operations = Operations {
     host_question: cabinet::host_question,
     to_new: cabinet::to_new,
     to_old: cabinet::to_old,
+    week_new: cabinet::week_new,
+    week_change: cabinet::week_change,
+    week_plan: cabinet::week_plan,
 };

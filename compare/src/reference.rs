@@ -18,6 +18,7 @@ mod refusal;
 mod route;
 mod sheet;
 mod tables_check;
+mod week;
 
 pub use arc::{Arrival, arc_arrival};
 pub use closures::Closure;
@@ -32,3 +33,4 @@ pub use refusal::{LoadRefusal, Refusal};
 pub use route::route;
 pub use sheet::sheet;
 pub use tables_check::{certificate_check, tables_check};
+pub use week::{Lists, Versions, week_change, week_new, week_plan};

@@ -1,6 +1,6 @@
 //! The programs' size limit, midnight and the last tick, an arc's intervals, holds,
-//! closures and their parties, passes, tables that are sent, a sheet's list and buffers, and
-//! towns of fixed size.
+//! closures and their parties, passes, tables that are sent, a sheet's list and buffers,
+//! week lists and their stores, and towns of fixed size.
 
 #[path = "boundaries/closures.rs"]
 mod closures;
@@ -14,6 +14,8 @@ mod parties;
 mod passes;
 #[path = "boundaries/tables.rs"]
 mod tables;
+#[path = "boundaries/week.rs"]
+mod week;
 
 use compare::cabinet;
 use compare::comparison::answers::{self, TableLengths};

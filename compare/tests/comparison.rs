@@ -90,6 +90,21 @@ fn to_old_program() {
 }
 
 #[test]
+fn week_new() {
+    run(&cases::WEEK_NEW);
+}
+
+#[test]
+fn week_change() {
+    run(&cases::WEEK_CHANGE);
+}
+
+#[test]
+fn week_plan() {
+    run(&cases::WEEK_PLAN);
+}
+
+#[test]
 fn non_passing() {
     run(&properties::NON_PASSING);
 }
@@ -272,4 +287,49 @@ fn comments_added() {
 #[test]
 fn refused_as_loaded() {
     run(&properties::REFUSED_AS_LOADED);
+}
+
+#[test]
+fn plan_of_each_day() {
+    run(&properties::PLAN_OF_EACH_DAY);
+}
+
+#[test]
+fn store_by_history() {
+    run(&properties::STORE_BY_HISTORY);
+}
+
+#[test]
+fn earlier_versions() {
+    run(&properties::EARLIER_VERSIONS);
+}
+
+#[test]
+fn own_slot() {
+    run(&properties::OWN_SLOT);
+}
+
+#[test]
+fn refused_weeks() {
+    run(&properties::REFUSED_WEEKS);
+}
+
+#[test]
+fn made_anew() {
+    run(&properties::MADE_ANEW);
+}
+
+#[test]
+fn empty_slots() {
+    run(&properties::EMPTY_SLOTS);
+}
+
+#[test]
+fn plans_shuffled() {
+    run(&properties::PLANS_SHUFFLED);
+}
+
+#[test]
+fn versions_moved() {
+    run(&properties::VERSIONS_MOVED);
 }

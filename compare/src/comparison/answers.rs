@@ -1,5 +1,10 @@
 //! One question put to the reference and to the library, for each operation.
 
+mod week;
+
+pub(super) use week::{shown_store, shown_week};
+pub use week::{week_change, week_new, week_place, week_plan};
+
 use std::fmt::Debug;
 use std::hint::black_box;
 

@@ -1,5 +1,9 @@
 //! Random questions for each operation, many of them to be refused.
 
+mod week;
+
+pub use week::{WEEK_CHANGE, WEEK_NEW, WEEK_PLAN};
+
 use super::answers::{self, TableLengths};
 use super::program::{self, Program};
 use super::{Check, Difference, Outcome};

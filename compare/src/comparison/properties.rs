@@ -10,6 +10,7 @@ mod parties;
 mod passes;
 mod sheets;
 mod tables;
+mod week;
 
 pub use closures::{
     CLOSED_AT_START, CLOSED_THROUGHOUT, CLOSURE_LIST, CLOSURES_AS_INTERVALS, MORE_CLOSED,
@@ -26,6 +27,10 @@ pub use parties::{OTHERS_CLOSURES, OWN_OR_BOTH, PARTIES_EXCHANGED};
 pub use passes::{PASSES_OF_PATHS, PASSES_RENUMBERED, PASSES_TWICE};
 pub use sheets::{SHEET_BY_LABELS, SHEET_SHUFFLED, SHEET_TWICE};
 pub use tables::{EITHER_OF_TWO_ARCS, ONE_ENTRY_CHANGED, OWN_TABLES, TABLES_OF_ANOTHER};
+pub use week::{
+    EARLIER_VERSIONS, EMPTY_SLOTS, MADE_ANEW, OWN_SLOT, PLAN_OF_EACH_DAY, PLANS_SHUFFLED,
+    REFUSED_WEEKS, STORE_BY_HISTORY, VERSIONS_MOVED,
+};
 
 use super::answers::{shown_arc, shown_closed};
 use super::{Check, Difference, Outcome};

@@ -32,6 +32,14 @@ pub const MAX_DEPARTURES: usize = 96;
 /// What a sheet tells of each junction.
 pub const FIGURES: usize = 4;
 
+pub const WEEKDAYS: u32 = 7;
+/// Masks in one week list.
+pub const MAX_PLANS: usize = 7;
+/// Versions in one store of week lists.
+pub const KEPT_VERSIONS: usize = 16;
+/// The last version that a list can have.
+pub const LAST_VERSION: u16 = 65_535;
+
 /// In bytes.
 pub const MAX_TEXT: usize = 65_536;
 /// In bytes before the line feed.

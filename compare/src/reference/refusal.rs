@@ -37,6 +37,9 @@ impl Refusal {
     pub const CLOSURE: Self = Self(37);
     pub const PARTY: Self = Self(38);
     pub const ASKER: Self = Self(39);
+    pub const WEEK_LIST: Self = Self(40);
+    pub const VERSION_OR_DAY: Self = Self(41);
+    pub const STORE: Self = Self(42);
     pub const DEPARTURE_INTERVAL: Self = Self(46);
 
     /// Refuses unless the condition holds.

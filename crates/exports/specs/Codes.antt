@@ -19,7 +19,7 @@ arrivalCode (refused number) = 2 ^ 63 + number
 arrivalCode (replied (some (tick, interval))) = tick + interval * 2 ^ 32
 arrivalCode (replied none) = 2 ^ 62
 
--- Route and Passes: the refusal's code, or the number of arcs or of passes.
+-- Route, Passes and the week store: the refusal's code, or the number of arcs or of passes, a version or a place.
 abbrev pub countCode : Outcome ℕ → ℕ
 countCode (refused number) = refusalBase + number
 countCode (replied count) = count

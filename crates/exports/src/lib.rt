@@ -7,3 +7,4 @@ pub mod passes;
 pub mod question;
 pub mod tables_check;
 pub mod text;
+pub mod week_store;

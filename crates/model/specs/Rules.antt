@@ -1,62 +1,17 @@
--- How an operation refuses: its rules "in this order, each over the whole table before the next", each a number and a test, of which the
--- first that is broken counts.
-use Prim.Native.Nat.{ℕ, _<_}
-use mathlib.Core.Path.{_≡_}
-use mathlib.Core.Logic.{_↔_}
-use mathlib.Core.Bool.{Bool, true, false, _&&_, cond}
+-- The tests of the rules on the interval count, fences, lengths, speeds and holds. How an operation refuses by rules stands with the refusals, and is handed on here.
+use Prim.Native.Nat.{ℕ}
+use mathlib.Core.Bool.{Bool, true, _&&_}
 use mathlib.Core.List.{List, [], _∷_, _++_}
 use lib.Dec.{leb, ltb, eqb}
-use lib.ListN.{length, getD, take, drop}
+use lib.ListN.{length, drop}
 use Rattle.model.specs.Ticks.{day}
 use Rattle.model.specs.Limits.{maxIntervals, maxLength, maxSpeed, maxHold}
-
--- What an operation comes to: the refusal's number, or the reply.
-pub data Outcome (Reply : Type 0) : Type 0 where
-  refused : ℕ → Outcome Reply
-  replied : Reply → Outcome Reply
-
-pub record Rule : Type 0 where
-  pub number : ℕ
-  pub broken : Bool
-
-infix 40 _if_
-abbrev pub _if_ : ℕ → Bool → Rule
-number if broken = record { number = number; broken = broken }
-
-unfoldable pub firstBroken : {Reply : Type 0} → List Rule → Reply → Outcome Reply
-firstBroken [] reply = replied reply
-firstBroken (rule ∷ rules) reply = cond (rule .broken) (refused (rule .number)) (firstBroken rules reply)
-
--- "A refused operation changes no lent table, buffer or text": what a lent table holds afterwards.
-abbrev pub after : {Reply : Type 0} → Outcome Reply → List ℕ → List ℕ → List ℕ
-after (refused number) written before = before
-after (replied reply) written before = written
-
--- One operation's refusal, or another reply in the place of its own.
-abbrev pub replying : {Reply Reply′ : Type 0} → Outcome Reply → Reply′ → Outcome Reply′
-replying (refused number) reply′ = refused number
-replying (replied reply) reply′ = replied reply′
+pub use Rattle.refusals.specs.Rules.{Outcome, refused, replied, Rule, _if_, after, replying, AllKept, RefusedExactlyWhen}
+unfoldable pub use Rattle.refusals.specs.Rules.{firstBroken, every}
 
 -- The entries at the table's start, and what stood behind them.
 abbrev pub written : List ℕ → List ℕ → List ℕ
 written entries table = entries ++ drop (length entries) table
-
--- No rule of the list is broken.
-abbrev pub AllKept : List Rule → Type 0
-AllKept [] = Unit {0}
-AllKept (rule ∷ rules) = (rule .broken ≡ false) × AllKept rules
-
--- An operation is refused with a number exactly where a rule with that number is broken and those before it are kept.
-abbrev pub RefusedExactlyWhen : Type 1
-RefusedExactlyWhen = (Reply : Type 0) (rules : List Rule) (reply : Reply) (number : ℕ) →
-    (firstBroken rules reply ≡ refused number)
-    ↔ ((k : ℕ) × (k < length rules) × AllKept (take k rules) × ((getD rules k (0 if false)) .broken ≡ true) × ((getD rules k (0 if false)) .number ≡ number))
-
--- ---- The tests
-
-unfoldable pub every : {A : Type 0} → (A → Bool) → List A → Bool
-every test [] = true
-every test (x ∷ xs) = test x && every test xs
 
 -- The fences after one: each is greater than the one before, and below the day.
 unfoldable pub riseFrom : ℕ → List ℕ → Bool

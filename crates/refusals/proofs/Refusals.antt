@@ -8,7 +8,7 @@ use Rattle.refusals.specs.declared.refusal.Refusal.the-variants.{Source,
 use Rattle.refusals.specs.declared.refusal.Refusal.the-variants.{TextLength, NoLineFeed, LineLength, UnknownMark, MarkOutOfTurn}
 use Rattle.refusals.specs.declared.refusal.Refusal.the-variants.{FieldForm, FieldValue, LineMissing, TableTooShort}
 use Rattle.refusals.specs.declared.refusal.Refusal.the-variants.{FormAlready, HoldDropped, OutputLength, ClosureCount, Closure, ClosureParty, Asker}
-use Rattle.refusals.specs.declared.refusal.Refusal.the-variants.{DepartureCount, SheetLength, DepartureInterval}
+use Rattle.refusals.specs.declared.refusal.Refusal.the-variants.{DepartureCount, SheetLength, DepartureInterval, WeekList, VersionOrDay, WeekStore}
 
 pub number-fits : (refusal : Refusal) → numberOf refusal < 100
 number-fits JunctionCount = omega arith
@@ -45,4 +45,7 @@ number-fits ClosureCount = omega arith
 number-fits Closure = omega arith
 number-fits ClosureParty = omega arith
 number-fits Asker = omega arith
+number-fits WeekList = omega arith
+number-fits VersionOrDay = omega arith
+number-fits WeekStore = omega arith
 number-fits DepartureInterval = omega arith

@@ -1,4 +1,4 @@
--- The number that documents 01 and 02 give each refusal, and what is added to it where one number answers either a refusal or a tick.
+-- The number that documents 01 and 02 give each refusal, and what is added to it where one number answers either a refusal or a reply.
 use Prim.Native.Nat.{ℕ}
 use Rattle.refusals.specs.declared.refusal.Refusal.{Refusal}
 use Rattle.refusals.specs.declared.refusal.Refusal.the-variants.{JunctionCount, IntervalCount, ArcCount, TableLength, Fence, ArcEnds, Length, Speed, Hold}
@@ -6,7 +6,7 @@ use Rattle.refusals.specs.declared.refusal.Refusal.the-variants.{Source,
 use Rattle.refusals.specs.declared.refusal.Refusal.the-variants.{TextLength, NoLineFeed, LineLength, UnknownMark, MarkOutOfTurn}
 use Rattle.refusals.specs.declared.refusal.Refusal.the-variants.{FieldForm, FieldValue, LineMissing, TableTooShort}
 use Rattle.refusals.specs.declared.refusal.Refusal.the-variants.{FormAlready, HoldDropped, OutputLength, ClosureCount, Closure, ClosureParty, Asker}
-use Rattle.refusals.specs.declared.refusal.Refusal.the-variants.{DepartureCount, SheetLength, DepartureInterval}
+use Rattle.refusals.specs.declared.refusal.Refusal.the-variants.{DepartureCount, SheetLength, DepartureInterval, WeekList, VersionOrDay, WeekStore}
 
 abbrev pub numberOf : Refusal → ℕ
 numberOf JunctionCount = 1
@@ -43,6 +43,9 @@ numberOf ClosureCount = 36
 numberOf Closure = 37
 numberOf ClosureParty = 38
 numberOf Asker = 39
+numberOf WeekList = 40
+numberOf VersionOrDay = 41
+numberOf WeekStore = 42
 numberOf DepartureInterval = 46
 
 -- "As 4,294,900,000 + its number": a refusal's code is this and its number.

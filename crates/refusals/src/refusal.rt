@@ -46,6 +46,10 @@ pub enum Refusal {
     SheetLength,
     // Arc arrival's.
     DepartureInterval,
+    // The week store's.
+    WeekList,
+    VersionOrDay,
+    WeekStore,
 }
 
 impl Refusal {
@@ -91,6 +95,9 @@ impl Refusal {
             Refusal::Closure => 37,
             Refusal::ClosureParty => 38,
             Refusal::Asker => 39,
+            Refusal::WeekList => 40,
+            Refusal::VersionOrDay => 41,
+            Refusal::WeekStore => 42,
             Refusal::DepartureInterval => 46,
         }
     }

@@ -3,6 +3,7 @@
 use std::hint::black_box;
 
 use compare::inputs::towns::{ASKER, DEPARTURE, EVENING, SOURCE, Town, departures};
+use compare::inputs::weeks::{MEASURED, Store, oldest_kept, slot_of};
 use compare::operations::{CABINET, Converter, Labelling, Operations, REFERENCE, TablesCheck};
 use compare::reference::limits::{FIGURES, MAX_ARCS, MAX_INTERVALS, MAX_TEXT, REFUSED};
 use compare::reference::{Closure, Form, certificate_check};
@@ -27,10 +28,12 @@ pub enum Operation {
     Route,
     Sheet,
     HostQuestion,
+    WeekChange,
+    WeekPlan,
 }
 
 impl Operation {
-    pub const ALL: [Self; 18] = [
+    pub const ALL: [Self; 20] = [
         Self::Load,
         Self::LoadHeld,
         Self::ToNew,
@@ -49,6 +52,8 @@ impl Operation {
         Self::Route,
         Self::Sheet,
         Self::HostQuestion,
+        Self::WeekChange,
+        Self::WeekPlan,
     ];
 
     pub fn name(self) -> &'static str {
@@ -71,6 +76,8 @@ impl Operation {
             Self::Route => "route",
             Self::Sheet => "sheet",
             Self::HostQuestion => "host-question",
+            Self::WeekChange => "week-change",
+            Self::WeekPlan => "week-plan",
         }
     }
 
@@ -84,6 +91,8 @@ impl Operation {
             Self::LabelsClosures1 | Self::LabelsClosures64 => town == Town::CLOSED,
             Self::LabelsClosuresShared | Self::PassesClosures64 => town == Town::CLOSED,
             Self::TablesCheckClosures64 => town == Town::CLOSED,
+            // They have no town, and stand beside one.
+            Self::WeekChange | Self::WeekPlan => town == Town::CLOSED,
         }
     }
 
@@ -188,6 +197,8 @@ impl Row {
             Operation::Route => route(operations, &self.town),
             Operation::Sheet => sheet(operations, &self.town),
             Operation::HostQuestion => host_question(operations, &self.town),
+            Operation::WeekChange => week_change(operations),
+            Operation::WeekPlan => week_plan(operations),
         }
     }
 }
@@ -321,5 +332,33 @@ fn host_question<'a>(operations: &'a Operations, town: &'a Town) -> Box<dyn FnMu
         let text = black_box(&town.text);
         let answer = (operations.host_question)(text, SOURCE, DEPARTURE, destination);
         assert!(answer < REFUSED);
+    })
+}
+
+/// Always the same change of a full store.
+fn week_change(operations: &Operations) -> Box<dyn FnMut() + '_> {
+    let mut store = Store::measured();
+    let masks = [0b001_1111, 0b010_0000, 0b100_0000];
+    let oldest = oldest_kept(MEASURED);
+    Box::new(move || {
+        let Store { versions, lists } = &mut store;
+        let reply =
+            (operations.week_change)(black_box(&masks), black_box(versions), black_box(lists));
+        assert_eq!(reply, Ok(u32::from(MEASURED) + 1));
+        // The version that fell out is there again, with the list that was written; this is one
+        // number for either program.
+        versions[slot_of(oldest)] = oldest;
+    })
+}
+
+/// Of a day in a full store, in a list of three plans.
+fn week_plan(operations: &Operations) -> Box<dyn FnMut() + '_> {
+    const VERSION: u32 = 93;
+    const SUNDAY: u32 = 6;
+    let Store { versions, lists } = Store::measured();
+    Box::new(move || {
+        let (versions, lists) = (black_box(&versions), black_box(&lists));
+        let reply = (operations.week_plan)(versions, lists, VERSION, SUNDAY);
+        assert_eq!(reply, Ok(2));
     })
 }

@@ -1,0 +1,17 @@
+pub mod Answers
+pub mod Below
+pub mod Columns
+pub mod History
+pub mod ListTest
+pub mod MakingRules
+pub mod Masks
+pub mod NextVersion
+pub mod Places
+pub mod PlanningRules
+pub mod Prefix
+pub mod Slots
+pub mod StoreTest
+pub mod Stores
+pub mod Trimming
+pub mod WeekList
+pub mod Writing

@@ -1,5 +1,7 @@
 // The program `arrivals`: it reads a question and a town file from standard input and prints when each junction is reached, and by
 // which arc. The language has no exit status, so the program's main, in C, returns what the function here answers.
+#![tactic(auto)]
+
 ghost use Rattle.arrivals_text.specs.Answer.{answer_to};
 ghost use Rattle.streams.specs.Exit.{ExitStatus, status_for, AnswersOrFails};
 

@@ -16,6 +16,7 @@ pub enum NetworkCheck {
 }
 
 // The arc count is the length of the tails.
+#[tactic(auto, unfolding(model::specs::Rules::first_broken, model::specs::NetworkRules::network_check_lem))]
 pub fn network_check(
     junctions: u32,
     fences: &[u32],

@@ -1,2 +1,4 @@
 // The refusals, and the number of each.
+#![tactic(auto)]
+
 pub mod refusal;

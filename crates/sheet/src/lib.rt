@@ -1,5 +1,7 @@
 // The program `sheet`: it reads a source, a list of departures and a town file from standard input and prints each junction's figures
 // over all of the departures. Its main, in C, returns what the function here answers.
+#![tactic(auto)]
+
 ghost use Rattle.sheet_text.specs.Answer.{sheet_for};
 ghost use Rattle.streams.specs.Exit.{ExitStatus, status_for, AnswersOrFails};
 

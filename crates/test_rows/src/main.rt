@@ -1,5 +1,7 @@
 // The reckonings of document 01 that are run and not proved, and others around midnight, with wrong intervals, with holds, with closures and for both parties, each on
 // a line with what the operation answers. By document 02, order 5, "the rows to keep (..) have hold 0".
+#![tactic(auto)]
+
 ghost use Rattle.std.specs.Prelude.{◌≡◌, length};
 
 use labelling::labels::{Labelled, labels};

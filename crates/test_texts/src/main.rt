@@ -1,5 +1,7 @@
 // What Load and Name answer for the stored town files, which the arguments name, and what the lent tables then hold. Every
 // entry is 9 before a call.
+#![tactic(auto)]
+
 use libc::STDOUT_FILENO;
 use loading::load::{Loaded, load};
 use naming::name::name;

@@ -1,5 +1,7 @@
 // The program `to_new`: it reads a town file from standard input and prints it in the new form. Its main, in C, returns what the function here
 // answers.
+#![tactic(auto)]
+
 ghost use Rattle.std.specs.Prelude.{true};
 ghost use Rattle.converted_text.specs.Printing.{conversion_for};
 ghost use Rattle.streams.specs.Exit.{ExitStatus, status_for, AnswersOrFails};

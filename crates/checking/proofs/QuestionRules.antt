@@ -15,11 +15,11 @@ use Rattle.model.specs.Network.{Network, closed_by, network_for, arcs}
 use Rattle.model.specs.Network as Plain
 use Rattle.model.specs.NetworkRules.{network_rules, network_check_lem}
 use Rattle.model.specs.Parties.{brigade, depot, KnownAsker, asker_keeps}
-use Rattle.model.specs.Rules.{AllKept, refused}
+use Rattle.model.specs.Rules.{AllKept, refused, first_broken}
 use Rattle.model.proofs.Closures.{closures_kept, kept_closures, kept_parties}
 use Rattle.model.proofs.NetworkRules.{kept_accepted, accepted_kept}
 use Rattle.model.proofs.Parties.{kept_for}
-use Rattle.model.proofs.Rules.{replies_kept, refused_before, kept_append, append_kept}
+use Rattle.model.proofs.Rules.{replies_kept, refused_before, kept_before, kept_append, append_kept}
 use Rattle.model.proofs.Tests.{one_of, is_one_of}
 use Rattle.checking.specs.NetworkCheck.{outcome_of}
 use Rattle.checking.specs.ClosedNetwork.{closure_rules, closed_network_rules, closed_network_check_lem, ClosuresPassWhenKept}
@@ -35,6 +35,12 @@ alone_keeps N is told = replies_kept (network_rules N) tt tt (sym is ∙ ap outc
 pub alone_refuses : (N : Network) (asker number : ℕ) → refused number ≡ network_check_lem (closed_by N []) → refused number ≡ closed_network_check_lem N asker
 unfolding network_check_lem closed_network_check_lem
 alone_refuses N asker number e = sym (refused_before (network_rules N) (closure_rules N asker) tt tt number (sym e))
+
+-- Of a network that is accepted without its closures, the rules on these decide.
+pub past_network : (N : Network) (asker : ℕ) {answer : NetworkCheck} → outcome_of answer ≡ network_check_lem (closed_by N []) → answer ≡ Accepted →
+    closed_network_check_lem N asker ≡ first_broken (closure_rules N asker) tt
+unfolding closed_network_check_lem
+past_network N asker is told = kept_before (network_rules N) (closure_rules N asker) tt (alone_keeps N is told)
 
 -- A network that the check accepts with its closures keeps their rules, which the rules of other operations follow.
 pub network_keeps : (N : Network) (asker : ℕ) {answer : NetworkCheck} → outcome_of answer ≡ closed_network_check_lem N asker → answer ≡ Accepted → AllKept (closed_network_rules N asker)
@@ -79,6 +85,11 @@ pub open_kept : (N : Network) → N.closures ≡ [] → Plain.Accepted N → All
 open_kept N none accepted = closed_kept N brigade accepted (no_closures_keep none) (inl refl)
 
 module _ (N : Network) (asker source departure : ℕ) where
+  pub past_closed : {answer : NetworkCheck} → outcome_of answer ≡ closed_network_check_lem N asker → answer ≡ Accepted →
+      question_check_lem N asker source departure ≡ first_broken (start_rules N source departure) tt
+  unfolding question_check_lem
+  past_closed is told = kept_before (closed_network_rules N asker) (start_rules N source departure) tt (network_keeps N asker is told)
+
   pub network_refuses : (number : ℕ) → refused number ≡ closed_network_check_lem N asker → refused number ≡ question_check_lem N asker source departure
   unfolding closed_network_check_lem question_check_lem
   network_refuses number e = sym (refused_before (closed_network_rules N asker) (start_rules N source departure) tt tt number (sym e))

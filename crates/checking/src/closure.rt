@@ -66,7 +66,6 @@ fn known_asker(asker: u32) -> bool
 }
 
 // Network check, and then the rules on the closures, whoever asks, and on the asker.
-#[tactic(auto, unfolding(model::specs::Rules::first_broken, crate::specs::ClosedNetwork::closed_network_check_lem))]
 pub fn closed_network_check(
     junctions: u32,
     fences: &[u32],

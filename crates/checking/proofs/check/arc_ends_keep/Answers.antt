@@ -1,5 +1,4 @@
 -- `check::arc_ends_keep`: each flag is the definition's test.
-use borrow.Author.Rules.{rules}
 use Rattle.checking.proofs.check.arc_ends_keep.Goals as goal
 
 -- `check::arc_ends_keep`: each flag is the definition's test.

@@ -1,11 +1,7 @@
 -- `check::ends_keep` is the test `ends_keep_lem` of both tables: the arcs so far and those that are left come to all.
-use borrow.Author.Rules.{rules}
-use Prim.Native.Nat.{◌-◌}
-use mathlib.Core.Path.{◌≡◌, refl, ap, ◌∙◌}
+use mathlib.Core.Path.{refl, ap, ◌∙◌}
 use mathlib.Core.Bool.{◌&&◌}
 use native.Mathlib.Omega.{arith}
-use lib.ListN.{length, drop}
-use Rattle.model.specs.NetworkRules.{ends_keep_lem}
 use Rattle.checking.proofs.EndsScan.{ends_go_on, ends_end}
 use Rattle.checking.proofs.check.ends_keep.Goals as goal
 

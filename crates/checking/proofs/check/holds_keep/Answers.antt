@@ -1,5 +1,4 @@
 -- `check::holds_keep` is the test `every hold_keeps` of the whole table: the highest hold decides it.
-use borrow.Author.Rules.{rules}
 use Rattle.model.specs.Limits.{max_hold}
 use Rattle.checking.proofs.HighestScan.{highest_decides}
 use Rattle.checking.proofs.check.holds_keep.Goals as goal

@@ -1,7 +1,7 @@
 -- `closure::closure_keeps` is the rule's own test: where a part fails, so does the whole.
-use borrow.Author.Rules.{rules}
 use borrow.Author.Tests.{lt-ltb, le-ltb}
 use Rattle.checking.proofs.closure.closure_keeps.Goals as goal
+
 -- COUNTS DIFFER: 8 old args, 7 needs, settled ['overflow_cast-row']
 
 -- `closure::closure_keeps` is the rule's own test: where a part fails, so does the whole.

@@ -1,11 +1,7 @@
 -- `closure::closures_keep` is the test of every record: the invariant says so of the rows that are left.
-use borrow.Author.Rules.{rules}
-use Prim.Native.Nat.{◌-◌}
-use mathlib.Core.Path.{◌≡◌, refl, ◌∙◌}
+use mathlib.Core.Path.{refl, ◌∙◌}
 use mathlib.Core.List.{[]}
-use lib.ListN.{length, drop}
-use Rattle.model.specs.Rules.{every}
-use Rattle.model.specs.Closures.{closure_keeps_lem, closure_of}
+use Rattle.model.specs.Closures.{closure_of}
 use Rattle.checking.proofs.Scan.{every_fails, every_goes_on, every_ends, every_image}
 use Rattle.checking.proofs.Flags.{test_fails, test_passes}
 use Rattle.checking.proofs.closure.closures_keep.Goals as goal

@@ -1,13 +1,9 @@
 -- `closure::parties_keep` is the test of every record's party: the invariant says so of the rows that are left.
-use borrow.Author.Rules.{rules}
 use Prim.Native.Nat.{◌-◌}
-use mathlib.Core.Path.{◌≡◌, refl, ◌∙◌}
-use mathlib.Core.List.{[]}
+use mathlib.Core.Path.{◌≡◌}
 use lib.ListN.{length, drop}
-use borrow.Author.Tests.{le-leb, lt-leb}
 use Rattle.model.specs.Rules.{every}
 use Rattle.model.specs.Closures.{party_keeps, closure_of}
-use Rattle.checking.proofs.Scan.{every_fails, every_goes_on, every_ends, every_image}
 use Rattle.checking.proofs.closure.parties_keep.Given as goal
 
 abbrev pub invariant-loop-k : goal.invariant-loop-k

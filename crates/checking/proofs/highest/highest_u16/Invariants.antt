@@ -1,8 +1,7 @@
 -- `highest::highest_u16` looks through the table: the highest of the entries before i is known.
-use borrow.Author.Rules.{rules}
 use Prim.Native.Nat.{◌-◌}
 use lib.ListN.{length}
-use Rattle.checking.proofs.HighestScan.{HighestTo, high_starts, high_goes_on, high_ends}
+use Rattle.checking.proofs.HighestScan.{HighestTo}
 use Rattle.checking.proofs.highest.highest_u16.Given as goal
 
 abbrev pub invariant-loop-i : goal.invariant-loop-i

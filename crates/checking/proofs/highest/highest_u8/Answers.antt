@@ -1,8 +1,5 @@
 -- `highest::highest_u8` looks through the table: the highest of the entries before i is known.
-use borrow.Author.Rules.{rules}
-use Prim.Native.Nat.{◌-◌}
-use lib.ListN.{length}
-use Rattle.checking.proofs.HighestScan.{HighestTo, high_starts, high_goes_on, high_ends}
+use Rattle.checking.proofs.HighestScan.{high_starts, high_goes_on, high_ends}
 use Rattle.checking.proofs.highest.highest_u8.Goals as goal
 
 pub loop-i-init : goal.loop-i-init

@@ -1,5 +1,4 @@
 -- `rule::fences_keep` is the test `fences_keep_lem`: of no fences, by the first, and then as the others rise.
-use borrow.Author.Rules.{rules}
 use mathlib.Core.Path.{◌∙◌}
 use Rattle.checking.proofs.Scan.{none_keep, first_fails, first_keeps}
 use Rattle.checking.proofs.rule.fences_keep.Goals as goal

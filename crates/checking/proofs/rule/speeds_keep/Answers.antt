@@ -1,5 +1,4 @@
 -- `rule::speeds_keep` is the test `every speed_keeps` of the whole table: the highest speed decides it.
-use borrow.Author.Rules.{rules}
 use Rattle.model.specs.Limits.{max_speed}
 use Rattle.checking.proofs.HighestScan.{highest_decides}
 use Rattle.checking.proofs.rule.speeds_keep.Goals as goal

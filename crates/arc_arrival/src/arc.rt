@@ -9,7 +9,7 @@ use model::limit::MAX_HOLD;
 use model::tick::{Arrival, Tick};
 use refusals::refusal::Refusal;
 
-#[derive(Drop)]
+#[derive(Clone, Copy)]
 pub enum ArcArrival {
     At { tick: Tick, interval: u32 },
     CannotBeDriven,

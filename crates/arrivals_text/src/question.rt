@@ -5,7 +5,7 @@ ghost use Rattle.arrivals_text.specs.Code.Found.{question_in_lem};
 use question_line::line::{Asked, QUESTION, numbers_line};
 
 // The two numbers of the question and where the town file begins.
-#[derive(Drop)]
+#[derive(Clone, Copy)]
 pub(crate) enum Question {
     Asked {
         source: u32,

@@ -17,7 +17,7 @@ use model::limit::{MAX_ARCS, MAX_JUNCTIONS};
 use model::tick::Tick;
 use refusals::refusal::Refusal;
 
-#[derive(Drop)]
+#[derive(Clone, Copy)]
 pub enum TablesCheck {
     Yes,
     No,

@@ -9,7 +9,7 @@ use crate::rule::{fences_keep, interval_count_keeps, lengths_keep, speeds_keep};
 use model::limit::MAX_ARCS;
 use refusals::refusal::Refusal;
 
-#[derive(Drop)]
+#[derive(Clone, Copy)]
 pub enum NetworkCheck {
     Accepted,
     Refused(Refusal),

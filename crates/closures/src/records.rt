@@ -7,7 +7,7 @@ ghost use Rattle.closures.specs.Records.{no_records_lem, counted, read_all};
 use model::closure::{Closure, MAX_CLOSURES};
 
 // The first records, and how many there were: `count` may be more than the array holds.
-#[derive(Drop)]
+#[derive(Clone, Copy)]
 pub struct Closures {
     pub list: [Closure; MAX_CLOSURES],
     pub count: usize,

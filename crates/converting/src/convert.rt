@@ -13,7 +13,7 @@ use scanning::scan::{Scanned, scan};
 use townfile::limit::MAX_TEXT;
 
 // The result's length, or why there is none.
-#[derive(Drop)]
+#[derive(Clone, Copy)]
 pub enum Converted {
     Length(usize),
     Refused { refusal: Refusal, line: u32 },

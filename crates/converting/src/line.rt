@@ -4,7 +4,7 @@ ghost use Rattle.converting.specs.Code.Lines.{InLines, LineFound};
 
 use fields::field::{line_end, mark_at};
 
-#[derive(Drop)]
+#[derive(Clone, Copy)]
 pub(crate) struct Line {
     pub mark: u16,
     // Where its line feed stands.

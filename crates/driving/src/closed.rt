@@ -18,7 +18,7 @@ use model::tick::{Arrival, Tick};
 use std::num::wrapping_add_u32;
 
 // What a tick finds on an arc: whether it is closed, and the tick up to which that stays so.
-#[derive(Drop)]
+#[derive(Clone, Copy)]
 struct Stretch {
     closed: bool,
     until: u32,
@@ -100,7 +100,7 @@ fn speed_in(speeds: &[u8], k: usize, closed: bool) -> u8
 }
 
 // A piece of constant speed: the tick up to which it goes, its speed, and the tick at which the interval ends.
-#[derive(Drop)]
+#[derive(Clone, Copy)]
 struct Piece {
     until: u32,
     speed: u8,

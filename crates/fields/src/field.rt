@@ -7,14 +7,14 @@ ghost use Rattle.fields.specs.Code.Digits.{just_zero_lem, number_from};
 use townfile::limit::{MAX_NAME, MAX_OF_SIX_DIGITS};
 use townfile::mark::{LINE_FEED, NONE, SPACE};
 
-#[derive(Drop)]
+#[derive(Clone, Copy)]
 pub enum Field {
     Number { value: u32, next: usize },
     Malformed,
 }
 
 // The rest of a line, by where it ends.
-#[derive(Drop)]
+#[derive(Clone, Copy)]
 pub enum Rest {
     Good(usize),
     Malformed,

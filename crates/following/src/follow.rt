@@ -9,7 +9,7 @@ use model::label::NO_ARC;
 use model::limit::{MAX_ARCS, MAX_JUNCTIONS};
 use refusals::refusal::Refusal;
 
-#[derive(Drop)]
+#[derive(Clone, Copy)]
 pub enum Followed {
     // The number of arcs.
     Arcs(u32),
@@ -17,7 +17,7 @@ pub enum Followed {
 }
 
 // A junction's predecessor, if that is an arc into it, and the junction that it comes from.
-#[derive(Drop)]
+#[derive(Clone, Copy)]
 enum Step {
     Back { arc: u16, tail: u16 },
     NoArc,
@@ -43,7 +43,7 @@ fn step_back(tails: &[u16], heads: &[u16], predecessors: &[u16], junction: usize
 }
 
 // Where the first arc of the way stands in the table.
-#[derive(Drop)]
+#[derive(Clone, Copy)]
 enum Collected {
     From(usize),
     NoWay,

@@ -11,7 +11,7 @@ use refusals::refusal::Refusal;
 pub const OUTPUT: usize = 8_192;
 
 // How long the text is, and whether it is a refusal.
-#[derive(Drop)]
+#[derive(Clone, Copy)]
 pub struct Text {
     pub length: usize,
     pub refused: bool,

@@ -11,7 +11,7 @@ use model::closure::MAX_CLOSURES;
 use model::tick::Tick;
 use refusals::refusal::Refusal;
 
-#[derive(Drop)]
+#[derive(Clone, Copy)]
 pub enum Labelled {
     Written,
     Refused(Refusal),

@@ -12,7 +12,7 @@ use fields::field::{line_end, mark_at};
 use townfile::mark::{ARC, FENCES};
 
 // A number and the place behind it.
-#[derive(Drop)]
+#[derive(Clone, Copy)]
 struct NumberTaken {
     value: u32,
     next: usize,

@@ -8,7 +8,7 @@ use crate::fill::fill;
 use refusals::refusal::Refusal;
 use scanning::scan::{Scanned, scan};
 
-#[derive(Drop)]
+#[derive(Clone, Copy)]
 pub enum Loaded {
     Counts {
         junctions: u32,

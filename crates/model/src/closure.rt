@@ -3,7 +3,7 @@ pub const MAX_CLOSURES: usize = 64;
 
 // From the first tick up to but not including the end tick the speed on the arc is 0, for its party or for both.
 #[repr(C)]
-#[derive(Drop)]
+#[derive(Clone, Copy)]
 pub struct Closure {
     pub arc: u32,
     pub first: u32,

@@ -1,7 +1,7 @@
 // The tick of the model, and what driving an arc ends in.
 
 // A tick is a tenth of a second, counted from the start of the first day.
-#[derive(Drop)]
+#[derive(Clone, Copy)]
 pub struct Tick {
     pub number: u32,
 }
@@ -14,7 +14,7 @@ impl Tick {
 }
 
 // The arrival on an arc: a tick with the number of the interval that contains it, or none up to the last tick.
-#[derive(Drop)]
+#[derive(Clone, Copy)]
 pub enum Arrival {
     At { tick: Tick, interval: usize },
     Never,

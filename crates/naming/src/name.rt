@@ -12,7 +12,7 @@ use townfile::mark::JUNCTION;
 use townfile::part::Part;
 
 // Where the name begins, if the line names the junction asked for.
-#[derive(Drop)]
+#[derive(Clone, Copy)]
 enum NameStart {
     At(usize),
     Other,

@@ -7,7 +7,7 @@ use crate::limits::{both, fence_keeps};
 use fields::field::{Field, at_line_end, read_field};
 
 // The numbers that fill the rest of a line: as many as they should be, and within their limits or not.
-#[derive(Drop)]
+#[derive(Clone, Copy)]
 pub enum Numbers {
     Within(usize),
     Outside,

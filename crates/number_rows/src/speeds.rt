@@ -15,7 +15,7 @@ use model::limit::{MAX_HOLD, MAX_SPEED};
 use townfile::mark::{LINE_FEED, SPACE};
 
 // The place up to which the short reading has come, or that it cannot tell.
-#[derive(Drop)]
+#[derive(Clone, Copy)]
 enum ShortRead {
     To(usize),
     Unsure,

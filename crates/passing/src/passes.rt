@@ -21,7 +21,7 @@ use model::limit::{MAX_ARCS, MAX_JUNCTIONS};
 use model::tick::Tick;
 use refusals::refusal::Refusal;
 
-#[derive(Drop)]
+#[derive(Clone, Copy)]
 pub enum Passed {
     Passes(u32),
     Refused(Refusal),

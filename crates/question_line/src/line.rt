@@ -12,7 +12,7 @@ use townfile::mark::{LINE_FEED, NONE};
 pub const QUESTION: u16 = 0x5155;
 
 // How many numbers the line has, and the place behind its line feed.
-#[derive(Drop)]
+#[derive(Clone, Copy)]
 pub enum Asked {
     Numbers { count: usize, next: usize },
     Malformed,

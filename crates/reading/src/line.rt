@@ -14,7 +14,7 @@ use refusals::refusal::Refusal;
 use townfile::mark::{ARC, COMMENT, FENCES, HELD_TOWN, JUNCTION, TOWN};
 use townfile::progress::Progress;
 
-#[derive(Drop)]
+#[derive(Clone, Copy)]
 pub enum LineRead {
     Next { progress: Progress, end: usize },
     Fault(Refusal),

@@ -13,7 +13,7 @@ use model::limit::MAX_JUNCTIONS;
 use model::tick::Tick;
 use refusals::refusal::Refusal;
 
-#[derive(Drop)]
+#[derive(Clone, Copy)]
 pub enum Routed {
     // The number of arcs, and the destination's label.
     Arcs { count: u32, arrival: u32 },
@@ -21,7 +21,7 @@ pub enum Routed {
 }
 
 // A junction's predecessor, and the junction that it comes from.
-#[derive(Drop)]
+#[derive(Clone, Copy)]
 struct StepBack {
     arc: u16,
     tail: usize,

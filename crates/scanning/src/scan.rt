@@ -11,7 +11,7 @@ use refusals::refusal::Refusal;
 use townfile::limit::{MAX_LINE, MAX_TEXT};
 use townfile::progress::Progress;
 
-#[derive(Drop)]
+#[derive(Clone, Copy)]
 pub enum Scanned {
     Read(Progress),
     Refused { refusal: Refusal, line: u32 },

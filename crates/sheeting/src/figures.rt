@@ -7,7 +7,7 @@ use crate::sheet::FIGURES;
 use model::label::UNREACHED;
 
 // A journey for each departure that reaches the junction.
-#[derive(Drop)]
+#[derive(Clone, Copy)]
 struct Figures {
     count: u32,
     least: u32,

@@ -19,7 +19,7 @@ pub const MAX_DEPARTURES: usize = 96;
 // As many numbers stand in the figures for each junction.
 pub const FIGURES: usize = 4;
 
-#[derive(Drop)]
+#[derive(Clone, Copy)]
 pub enum Sheeted {
     Written,
     Refused(Refusal),

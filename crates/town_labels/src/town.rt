@@ -15,7 +15,7 @@ use model::party::BRIGADE;
 use model::tick::Tick;
 use refusals::refusal::Refusal;
 
-#[derive(Drop)]
+#[derive(Clone, Copy)]
 pub enum TownLabelled {
     // So many entries of each buffer are the town's.
     Junctions(u32),

@@ -3,7 +3,7 @@ ghost use Rattle.std.specs.Prelude.{◌≡◌, [], ◌∷◌};
 ghost use Rattle.townfile.specs.Lines.{arcs_due, after_town_lem, behind_town, after_fences_lem};
 ghost use Rattle.townfile.specs.FirstFault.{start as at_start};
 
-#[derive(Drop)]
+#[derive(Clone, Copy)]
 pub struct Progress {
     // Which mark is due.
     pub turn: u32,

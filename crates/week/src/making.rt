@@ -9,7 +9,7 @@ use refusals::refusal::Refusal;
 
 const LAST_VERSION: u16 = 65_535;
 
-#[derive(Drop)]
+#[derive(Clone, Copy)]
 pub enum Made {
     Version(u16),
     Refused(Refusal),

@@ -7,7 +7,7 @@ use crate::list::{WEEKDAYS, place_of};
 use crate::store::{MASKS, SLOTS, list_in, newest_kept, slot_of};
 use refusals::refusal::Refusal;
 
-#[derive(Drop)]
+#[derive(Clone, Copy)]
 pub enum Plan {
     Place(u32),
     Refused(Refusal),

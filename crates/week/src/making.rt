@@ -16,6 +16,7 @@ pub enum Made {
 }
 
 // A store with this list as version 1, and nothing of what the tables held.
+#[tactic(auto, unfolding(refusals::specs::Rules::first_broken))]
 pub fn week_new(masks: &[u8], versions: &mut [u16; SLOTS], lists: &mut [u8; MASKS]) -> Made
     ensures answer { outcome_of result ≡ new_answer masks.now }
     ensures versions { versions.new ≡ (new_leaves masks.now (store versions.old lists.old)).versions }
@@ -31,6 +32,7 @@ pub fn week_new(masks: &[u8], versions: &mut [u16; SLOTS], lists: &mut [u8; MASK
 }
 
 // The list as the next version, in the place of the oldest where 16 are kept.
+#[tactic(auto, unfolding(refusals::specs::Rules::first_broken))]
 pub fn week_change(masks: &[u8], versions: &mut [u16; SLOTS], lists: &mut [u8; MASKS]) -> Made
     ensures answer { outcome_of result ≡ change_answer masks.now (store versions.old lists.old) }
     ensures versions { versions.new ≡ (change_leaves masks.now (store versions.old lists.old)).versions }

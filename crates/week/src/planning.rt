@@ -27,6 +27,7 @@ fn is_kept(newest: u16, version: u32) -> bool
     last < version + SLOTS as u32
 }
 
+#[tactic(auto, unfolding(refusals::specs::Rules::first_broken))]
 pub fn week_plan(versions: &[u16; SLOTS], lists: &[u8; MASKS], version: u32, day: u32) -> Plan
     ensures { outcome_of result ≡ plan_answer (store versions.now lists.now) version day }
 {

@@ -1,0 +1,20 @@
+-- `store::stored_keeps` looks from the front: the invariant is that the masks before the place are not 0, and which days they have (`Prefix`).
+use mathlib.Core.Path.{◌∙◌}
+use native.Mathlib.Omega.{arith}
+use Rattle.week.proofs.Prefix.{empty, longer, decides}
+use Rattle.week.proofs.store.stored_keeps.Goals as goal
+
+pub returns-then-mask-eq0 : goal.returns-then-mask-eq0
+returns-then-mask-eq0 c =
+    c.add_up.ensures ∙ rw c.sum_of-sum.ensures (decides _ c.loop-place.invariant c.requires (λ less. c.if-mask-eq0.true))
+
+pub loop-place-preserved : goal.loop-place-preserved
+loop-place-preserved c = longer _ c.loop-place.invariant c.loop-place-test.true c.if-mask-eq0.false
+
+pub returns : goal.returns
+returns c =
+    c.add_up-2.ensures
+    ∙ rw c.sum_of-sum.ensures (decides _ c.loop-place.invariant c.requires (λ less. absurd (omega (arith, less, c.loop-place-test.false))))
+
+pub loop-place-init : goal.loop-place-init
+loop-place-init c = empty _

@@ -1,5 +1,5 @@
 -- The arrival with its hold, from what driving the arc has told: the hold is added to the tick, and none stays none.
-use Rattle.std.proofs.Common.{◌≡◌, ℕ, ◌+◌, ◌-◌, ◌<◌, ◌≤◌, List, length, sym, ap, ◌∙◌, arith}
+use Rattle.std.proofs.Common.{◌≡◌, ℕ, ◌+◌, ◌<◌, ◌≤◌, List, length, sym, ap, ◌∙◌, arith}
 use mathlib.Core.Option.{Option, none, some}
 use Rattle.model.specs.Ticks.{last}
 use Rattle.model.specs.Flow.{arrival}

@@ -1,6 +1,3 @@
-pub mod Parameters
-pub mod Pass
 pub mod Reading
 pub mod StoppingRows
-pub mod Thin
 pub mod Writing

@@ -1,11 +1,13 @@
 -- What stands in the array that is read of a list: its closures from the front, where the list is not too long.
-use Prim.Native.Nat.{ℕ, ◌≤◌, ◌+◌, suc}
+use Prim.Native.Nat.{ℕ, ◌≤◌, ◌<◌, ◌+◌, suc, min}
 use mathlib.Core.Path.{◌≡◌, refl, ◌∙◌}
 use mathlib.Core.List.{List, [], ◌∷◌, ◌++◌, append-nil, append_assoc}
-use lib.ListN.{take, length, set, length-set, length-replicate}
-use lib.Seq.{take-suc-set, take_all}
+use lib.ListN.{take, drop, length, get_or, set, length-set, length-replicate, length-take, drop_of_length-le}
+use lib.Seq.{take-suc-set, take_all, drop-cons}
+use native.Mathlib.Numerals.{add-one}
 use native.Mathlib.Nat.{add-zero, add-suc, suc-add, zero-add}
 use native.Mathlib.Omega.{arith}
+use Rattle.std.proofs.lemmas.List.{get_or-take}
 use Rattle.model.specs.Closures.{max_closures, no_closure}
 use Rattle.model.specs.declared.closure.Closure.{Closure}
 use Rattle.closures.specs.Records.{no_records_lem, set_from, read_all}
@@ -28,3 +30,16 @@ read_length xs = set_from_length no_records_lem 0 (take max_closures xs) ∙ len
 pub read_taken : (xs : List Closure) → length xs ≤ max_closures → take (length xs) (read_all xs).list ≡ xs
 read_taken xs h =
     rw (take_all max_closures xs h, ← zero-add (length xs)) (set_from_taken no_records_lem 0 xs (rw length-replicate (omega arith)))
+
+-- One record put at its place: what is left behind it, put from there on, comes to the same.
+pub one_put : (list xs : List Closure) (i : ℕ) {all : List Closure} → i < max_closures → i < length xs → set_from list i (drop i (take max_closures xs)) ≡ all →
+    set_from (set list i (get_or xs i no_closure)) (i + 1) (drop (i + 1) (take max_closures xs)) ≡ all
+one_put list xs i few inside so_far =
+    let here : i < length (take max_closures xs) = rw length-take (omega arith) in
+    rw (add-one, ← get_or-take max_closures xs i no_closure few) (rw (drop-cons (take max_closures xs) i no_closure here) at so_far)
+
+-- No record is left.
+pub all_put : (list xs : List Closure) (i : ℕ) {all : List Closure} → min (length xs) max_closures ≤ i → set_from list i (drop i (take max_closures xs)) ≡ all → list ≡ all
+all_put list xs i ended so_far =
+    let short : length (take max_closures xs) ≤ i = rw length-take (omega arith) in
+    rw (drop_of_length-le (take max_closures xs) short) at so_far

@@ -137,28 +137,6 @@ mod exports {
             arc_count: usize,
         ) -> u32;
 
-        pub fn exports_route_read(
-            junctions: u32,
-            fences: *const u32,
-            fence_count: usize,
-            tails: *const u16,
-            tail_count: usize,
-            heads: *const u16,
-            head_count: usize,
-            lengths: *const u32,
-            length_count: usize,
-            holds: *const u16,
-            hold_count: usize,
-            speeds: *const u8,
-            speed_count: usize,
-            source: u32,
-            destination: u32,
-            predecessors: *const u16,
-            predecessor_count: usize,
-            arcs: *mut u16,
-            arc_count: usize,
-        ) -> u32;
-
         pub fn exports_sheet(
             junctions: u32,
             fences: *const u32,
@@ -415,30 +393,6 @@ pub fn route(
             source,
             departure,
             destination,
-            arcs.as_mut_ptr(),
-            arcs.len(),
-        )
-    };
-    decoded(answer)
-}
-
-pub fn route_read(
-    network: &Network,
-    source: u32,
-    destination: u32,
-    predecessors: &[u16],
-    arcs: &mut [u16],
-) -> Result<u32, Refusal> {
-    // SAFETY: each pointer and length belong to one slice lent for the call,
-    // the last for writing and to nobody else.
-    let answer = unsafe {
-        on_network!(
-            exports_route_read,
-            network,
-            source,
-            destination,
-            predecessors.as_ptr(),
-            predecessors.len(),
             arcs.as_mut_ptr(),
             arcs.len(),
         )

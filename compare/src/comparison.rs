@@ -27,13 +27,12 @@ pub struct Check {
     pub refuses: &'static [RangeInclusive<u32>],
 }
 
-pub const CHECKS: [&Check; 74] = [
+pub const CHECKS: [&Check; 64] = [
     &cases::NETWORK_CHECK,
     &cases::ARC_ARRIVAL,
     &cases::LABELS,
     &cases::TABLES_CHECK,
     &cases::ROUTE,
-    &cases::ROUTE_READ,
     &cases::SHEET,
     &cases::LOAD,
     &cases::NAME,
@@ -79,15 +78,6 @@ pub const CHECKS: [&Check; 74] = [
     &properties::ONE_ENTRY_CHANGED,
     &properties::TABLES_OF_ANOTHER,
     &properties::EITHER_OF_TWO_ARCS,
-    &properties::WAYS_BY_HAND,
-    &properties::ENTRIES_NOT_MET,
-    &properties::PARTS_OF_A_WAY,
-    &properties::ROUTE_LISTS,
-    &properties::OTHER_STREETS,
-    &properties::OTHER_NUMBERS,
-    &properties::SEVERAL_DESTINATIONS,
-    &properties::TABLES_TAKEN,
-    &properties::HOST_IN_STEPS,
     &properties::CONVERTED_AS_WRITTEN,
     &properties::THERE_AND_BACK,
     &properties::CONVERTED_TOWN,
@@ -108,9 +98,9 @@ pub const CHECKS: [&Check; 74] = [
 #[derive(Clone, Copy, Debug, PartialEq, Eq, PartialOrd, Ord)]
 pub enum Outcome {
     Answered,
-    /// The arc cannot be driven, there is no name, the tables are not right, the way has no arcs,
-    /// or midnight, the holds, the closures, their parties, the arcs' numbers or a store's size
-    /// make no difference.
+    /// The arc cannot be driven, there is no name, the tables are not right, or midnight, the
+    /// holds, the closures, their parties, the arcs' numbers or a store's size make no
+    /// difference.
     Nothing,
     Refused(Refusal),
 }

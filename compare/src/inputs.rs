@@ -1,12 +1,11 @@
-//! Networks, closures, tables, predecessors, town files and stores of week lists to ask about,
-//! the same on every machine.
+//! Networks, closures, tables, town files and stores of week lists to ask about, the same on
+//! every machine.
 
 pub mod closures;
 pub mod damage;
 pub mod examples;
 pub mod grids;
 pub mod networks;
-pub mod predecessors;
 mod random;
 pub mod tables;
 pub mod texts;

@@ -30,16 +30,6 @@ pub type TablesCheck = fn(
     predecessors: &[u16],
 ) -> Result<bool, Refusal>;
 
-/// Takes a network, the ends of a route, lent predecessors to read and a lent arc list; returns
-/// the number of arcs.
-pub type RouteReader = fn(
-    network: &Network,
-    source: u32,
-    destination: u32,
-    predecessors: &[u16],
-    arcs: &mut [u16],
-) -> Result<u32, Refusal>;
-
 /// Takes a week list and a lent store, and returns the version made.
 pub type WeekWriter =
     fn(masks: &[u8], versions: &mut Versions, lists: &mut Lists) -> Result<u32, Refusal>;
@@ -61,7 +51,6 @@ pub struct Operations {
         destination: u32,
         arcs: &mut [u16],
     ) -> Result<u32, Refusal>,
-    pub route_read: RouteReader,
     pub sheet: fn(
         network: &Network,
         closures: &[Closure],
@@ -108,7 +97,6 @@ pub const REFERENCE: Operations = Operations {
     passes: reference::passes,
     tables_check: reference::tables_check,
     route: reference::route,
-    route_read: reference::route_read,
     sheet: reference::sheet,
     load: reference::load,
     name: reference::name,
@@ -127,7 +115,6 @@ pub const CABINET: Operations = Operations {
     passes: cabinet::passes,
     tables_check: cabinet::tables_check,
     route: cabinet::route,
-    route_read: cabinet::route_read,
     sheet: cabinet::sheet,
     load: cabinet::load,
     name: cabinet::name,

@@ -40,11 +40,6 @@ fn route() {
 }
 
 #[test]
-fn route_read() {
-    run(&cases::ROUTE_READ);
-}
-
-#[test]
 fn sheet() {
     run(&cases::SHEET);
 }
@@ -267,51 +262,6 @@ fn tables_of_another() {
 #[test]
 fn either_of_two_arcs() {
     run(&properties::EITHER_OF_TWO_ARCS);
-}
-
-#[test]
-fn ways_by_hand() {
-    run(&properties::WAYS_BY_HAND);
-}
-
-#[test]
-fn entries_not_met() {
-    run(&properties::ENTRIES_NOT_MET);
-}
-
-#[test]
-fn parts_of_a_way() {
-    run(&properties::PARTS_OF_A_WAY);
-}
-
-#[test]
-fn route_lists() {
-    run(&properties::ROUTE_LISTS);
-}
-
-#[test]
-fn other_streets() {
-    run(&properties::OTHER_STREETS);
-}
-
-#[test]
-fn other_numbers() {
-    run(&properties::OTHER_NUMBERS);
-}
-
-#[test]
-fn several_destinations() {
-    run(&properties::SEVERAL_DESTINATIONS);
-}
-
-#[test]
-fn tables_taken() {
-    run(&properties::TABLES_TAKEN);
-}
-
-#[test]
-fn host_in_steps() {
-    run(&properties::HOST_IN_STEPS);
 }
 
 #[test]

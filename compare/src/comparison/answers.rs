@@ -1,17 +1,12 @@
 //! One question put to the reference and to the library, for each operation.
 
-mod reader;
 mod week;
 
-pub(super) use reader::{Read, read, shown_read};
-pub use reader::{route_arcs, route_read};
 pub(super) use week::{shown_store, shown_week};
 pub use week::{week_change, week_new, week_place, week_plan};
 
 use std::fmt::Debug;
 use std::hint::black_box;
-
-use reader::expect_in_two_steps;
 
 use super::lent::Lent;
 use super::program::{Program, Run};
@@ -282,69 +277,36 @@ pub(super) fn labelled<T>(
     }
 }
 
-/// Route, in one step and then in two: the library's Labels and its reader, which must give
-/// the same.
 pub fn route(
-    network: &OwnedNetwork,
-    closures: &[Closure],
-    asker: u32,
-    start: (u32, u32),
-    destination: u32,
-    list_length: usize,
-) -> Result<Outcome, Difference> {
-    let (source, departure) = start;
-    let question = format!(
-        "route for {asker} from {source} at {departure} to {destination}, list of {list_length}"
-    );
-    let input = || shown_closed(network, closures);
-    let route = agreed(&question, input, |operations| {
-        routed(
-            operations,
-            network,
-            closures,
-            asker,
-            start,
-            destination,
-            list_length,
-        )
-    })?;
-    expect_in_two_steps(
-        network,
-        closures,
-        asker,
-        start,
-        destination,
-        list_length,
-        &route,
-    )?;
-    Ok(Outcome::of(&route.reply))
-}
-
-/// The answer of Route.
-pub(super) fn routed(
-    operations: &Operations,
     network: &OwnedNetwork,
     closures: &[Closure],
     asker: u32,
     (source, departure): (u32, u32),
     destination: u32,
     list_length: usize,
-) -> Read {
-    let mut arcs = Lent::new(list_length);
-    let reply = (operations.route)(
-        &network.lent(),
-        closures,
-        asker,
-        source,
-        departure,
-        destination,
-        arcs.part(),
+) -> Result<Outcome, Difference> {
+    let question = format!(
+        "route for {asker} from {source} at {departure} to {destination}, list of {list_length}"
     );
-    Answer {
-        reply,
-        kept: arcs.kept_after(reply.unwrap_or(0) as usize),
-        buffers: arcs,
-    }
+    let input = || shown_closed(network, closures);
+    let reply = compare(&question, input, |operations| {
+        let mut arcs = Lent::new(list_length);
+        let reply = (operations.route)(
+            &network.lent(),
+            closures,
+            asker,
+            source,
+            departure,
+            destination,
+            arcs.part(),
+        );
+        Answer {
+            reply,
+            kept: arcs.kept_after(reply.unwrap_or(0) as usize),
+            buffers: arcs,
+        }
+    })?;
+    Ok(Outcome::of(&reply))
 }
 
 pub fn sheet(

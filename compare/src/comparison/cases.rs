@@ -1,9 +1,7 @@
 //! Random questions for each operation, many of them to be refused.
 
-mod reader;
 mod week;
 
-pub use reader::ROUTE_READ;
 pub use week::{WEEK_CHANGE, WEEK_NEW, WEEK_PLAN};
 
 use super::answers::{self, TableLengths};

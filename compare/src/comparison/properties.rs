@@ -8,7 +8,6 @@ mod intervals;
 mod midnight;
 mod parties;
 mod passes;
-mod reader;
 mod sheets;
 mod tables;
 mod week;
@@ -26,10 +25,6 @@ pub use intervals::{INTERVALS_PASSED_ON, LABELS_BY_ARCS, LABELS_OF_PATHS, ONE_IN
 pub use midnight::{DAY_LATER, LABELS_ROTATED};
 pub use parties::{OTHERS_CLOSURES, OWN_OR_BOTH, PARTIES_EXCHANGED};
 pub use passes::{PASSES_OF_PATHS, PASSES_RENUMBERED, PASSES_TWICE};
-pub use reader::{
-    ENTRIES_NOT_MET, HOST_IN_STEPS, OTHER_NUMBERS, OTHER_STREETS, PARTS_OF_A_WAY, ROUTE_LISTS,
-    SEVERAL_DESTINATIONS, TABLES_TAKEN, WAYS_BY_HAND,
-};
 pub use sheets::{SHEET_BY_LABELS, SHEET_SHUFFLED, SHEET_TWICE};
 pub use tables::{EITHER_OF_TWO_ARCS, ONE_ENTRY_CHANGED, OWN_TABLES, TABLES_OF_ANOTHER};
 pub use week::{
@@ -199,9 +194,8 @@ fn in_time(tick: u32) -> Option<u32> {
     (tick <= LAST_TICK).then_some(tick)
 }
 
-/// Labels, predecessors and routes against every walk of a small network, the routes read from
-/// these predecessors too, the passes that find the labels arc by arc, and the predecessors that
-/// may stand beside them in tables.
+/// Labels, predecessors and routes against every walk of a small network, the passes that find
+/// the labels arc by arc, and the predecessors that may stand beside them in tables.
 fn labels_by_walks(random: &mut Random) -> Result<Outcome, Difference> {
     let network = small_network(random);
     let source = random.below(network.junctions);
@@ -212,17 +206,13 @@ fn labels_by_walks(random: &mut Random) -> Result<Outcome, Difference> {
     let walks = Walks::all(&network, &stopping, source, departure);
     let tables = (walks.labels.clone(), walks.predecessors());
     let passes = (walks.passes(departure), tables.clone());
-    let routes = [walks.routes(), walks.routes()];
-    let expected = (tables.clone(), routes, passes, walks.attaining());
+    let expected = (tables.clone(), walks.routes(), passes, walks.attaining());
     let routes = (0..network.junctions)
         .map(|to| cabinet_route(&network, &closures, asker, (source, departure), to))
         .collect();
-    let read = (0..network.junctions)
-        .map(|to| cabinet_read(&network, source, to, &tables.1))
-        .collect();
     let found = (
         cabinet_labels(&network, &closures, asker, source, departure),
-        [routes, read],
+        routes,
         cabinet_passes(&network, &closures, asker, source, departure),
         cabinet_taken(&network, &closures, asker, (source, departure), &tables),
     );
@@ -335,20 +325,6 @@ fn cabinet_route(
         destination,
         &mut arcs,
     );
-    arcs.truncate(reply.ok()? as usize);
-    Some(arcs)
-}
-
-/// The same as it is read from these predecessors.
-fn cabinet_read(
-    network: &OwnedNetwork,
-    source: u32,
-    destination: u32,
-    predecessors: &[u16],
-) -> Option<Vec<u16>> {
-    let mut arcs = vec![0; network.junctions as usize];
-    let network = network.lent();
-    let reply = cabinet::route_read(&network, source, destination, predecessors, &mut arcs);
     arcs.truncate(reply.ok()? as usize);
     Some(arcs)
 }

@@ -127,16 +127,6 @@ impl OwnedNetwork {
         }
     }
 
-    /// The same streets between junctions with these numbers.
-    pub fn renamed(&self, names: &[u16]) -> Self {
-        let name = |&junction: &u16| names[usize::from(junction)];
-        Self {
-            tails: self.tails.iter().map(name).collect(),
-            heads: self.heads.iter().map(name).collect(),
-            ..self.clone()
-        }
-    }
-
     /// All arcs in the order in which they are left, if the junctions have these labels.
     pub fn arcs_as_left(&self, labels: &[u32]) -> Vec<usize> {
         let mut order: Vec<usize> = (0..self.arcs()).collect();
@@ -282,23 +272,6 @@ pub fn random_path(random: &mut Random) -> OwnedNetwork {
         network.insert_arc(network.arcs(), arc);
     }
     network
-}
-
-/// The same with an arc back beside each, the arcs numbered anyhow.
-pub fn random_two_way_path(random: &mut Random) -> OwnedNetwork {
-    let path = random_path(random);
-    let arcs = path.arcs();
-    let once: Vec<usize> = (0..arcs).collect();
-    let mut network = path.renumbered(&once.repeat(2));
-    let ends = network.tails[arcs..]
-        .iter_mut()
-        .zip(&mut network.heads[arcs..]);
-    for (tail, head) in ends {
-        mem::swap(tail, head);
-    }
-    let mut order: Vec<usize> = (0..network.arcs()).collect();
-    random.shuffle(&mut order);
-    network.renumbered(&order)
 }
 
 /// A network small enough to try every walk.
@@ -562,30 +535,6 @@ mod tests {
         assert_eq!(network.against_the_way(0, 0), network);
         let with_the_way = network.renumbered(&[1, 0]);
         assert_eq!(with_the_way.against_the_way(0, 0), network);
-    }
-
-    #[test]
-    fn renames_junctions() {
-        let renamed = two_arcs().renamed(&[2, 0, 1]);
-        assert_eq!((renamed.tails, renamed.heads), (vec![2, 0], vec![0, 1]));
-    }
-
-    #[test]
-    fn goes_both_ways() {
-        let random = &mut Random::new(1);
-        for _ in 0..20 {
-            let network = random_two_way_path(random);
-            let streets = network.tails.iter().zip(&network.heads);
-            let mut ways: Vec<(u16, u16)> = streets.map(|(&tail, &head)| (tail, head)).collect();
-            ways.sort_unstable();
-            let last = network.junctions as u16 - 1;
-            let mut expected: Vec<(u16, u16)> = (0..last)
-                .flat_map(|one| [(one, one + 1), (one + 1, one)])
-                .collect();
-            expected.sort_unstable();
-            assert_eq!(ways, expected);
-            assert_eq!(reference::network_check(&network.lent()), Ok(()));
-        }
     }
 
     #[test]

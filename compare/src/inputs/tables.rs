@@ -3,7 +3,6 @@
 
 use super::closures::exchanged;
 use super::networks::interval_at;
-use super::predecessors::random_arc_where;
 use super::{OwnedNetwork, Random};
 use crate::reference::limits::{
     BOTH_PARTIES, DAY, LAST_TICK, MAX_CLOSURES, MAX_HOLD, MAX_LENGTH, MAX_SPEED, NO_ARC, UNREACHED,
@@ -165,7 +164,9 @@ pub fn alter_predecessor(
 }
 
 fn random_arc_into(random: &mut Random, network: &OwnedNetwork, junction: usize) -> Option<u16> {
-    random_arc_where(random, network, |_, head| head == junction)
+    let into = |&arc: &usize| usize::from(network.heads[arc]) == junction;
+    let arcs: Vec<usize> = (0..network.arcs()).filter(into).collect();
+    (!arcs.is_empty()).then(|| random.pick(&arcs) as u16)
 }
 
 /// Marks the junction and all that are reached by way of it as unreached.

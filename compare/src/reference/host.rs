@@ -1,8 +1,7 @@
 use super::closures::ClosedArcs;
-use super::limits::{MAX_JUNCTIONS, REFUSED};
+use super::limits::REFUSED;
 use super::load::Town;
-use super::route::reckon;
-use super::route_read::read;
+use super::route::reach;
 use super::{LoadRefusal, Refusal};
 
 /// The destination's label, or the coded number of a refusal.
@@ -12,11 +11,9 @@ pub fn host_question(text: &[u8], source: u32, departure: u32, destination: u32)
 
 fn answer(text: &[u8], source: u32, departure: u32, destination: u32) -> Result<u32, Refusal> {
     let town = Town::read(text).map_err(|LoadRefusal { refusal, .. }| refusal)?;
-    let network = town.network();
-    let (labels, predecessors) = reckon(&network, ClosedArcs::none(), source, departure)?;
-    let mut arcs = [0; MAX_JUNCTIONS as usize];
-    read(&network, source, destination, &predecessors, &mut arcs)?;
-    Ok(labels[destination as usize])
+    let closed = ClosedArcs::none();
+    let reached = reach(&town.network(), closed, source, departure, destination)?;
+    Ok(reached.label)
 }
 
 #[cfg(test)]

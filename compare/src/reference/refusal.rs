@@ -40,7 +40,6 @@ impl Refusal {
     pub const WEEK_LIST: Self = Self(40);
     pub const VERSION_OR_DAY: Self = Self(41);
     pub const STORE: Self = Self(42);
-    pub const WAY_BACK: Self = Self(43);
     pub const DEPARTURE_INTERVAL: Self = Self(46);
 
     /// Refuses unless the condition holds.

@@ -1,11 +1,9 @@
 use super::closures::ClosedArcs;
 use super::labels::{Search, check_start, check_with_closures};
 use super::limits::{NO_ARC, UNREACHED};
-use super::route_read::read;
 use super::{Closure, Network, Refusal};
 
-/// Writes the route's arcs in driving order and returns their count: Labels, and then the
-/// reader.
+/// Writes the route's arcs in driving order and returns their count.
 pub fn route(
     network: &Network,
     closures: &[Closure],
@@ -17,23 +15,56 @@ pub fn route(
 ) -> Result<u32, Refusal> {
     check_with_closures(network, closures, asker)?;
     let closed = ClosedArcs::new(network.tails.len(), closures, asker);
-    let (_, predecessors) = reckon(network, closed, source, departure)?;
-    read(network, source, destination, &predecessors, arcs)
+    let reached = reach(network, closed, source, departure, destination)?;
+    let route = reached.route(network);
+    let list = arcs.get_mut(..route.len()).ok_or(Refusal::LIST_TOO_SHORT)?;
+    list.copy_from_slice(&route);
+    Ok(route.len() as u32)
 }
 
-/// The labels and predecessors of a checked network with what is closed for one question, with
-/// refusals 9 and 10.
-pub(super) fn reckon(
+/// A reached destination.
+pub(super) struct Reached {
+    pub label: u32,
+    destination: usize,
+    predecessors: Vec<u16>,
+}
+
+impl Reached {
+    /// Follows the predecessors back from the destination to the source.
+    fn route(&self, network: &Network) -> Vec<u16> {
+        let mut route = Vec::new();
+        let mut junction = self.destination;
+        while self.predecessors[junction] != NO_ARC {
+            let arc = self.predecessors[junction];
+            route.push(arc);
+            junction = usize::from(network.tails[usize::from(arc)]);
+        }
+        route.reverse();
+        route
+    }
+}
+
+/// Labels a checked network with what is closed for one question, with refusals 9 to 13.
+pub(super) fn reach(
     network: &Network,
     closed: ClosedArcs,
     source: u32,
     departure: u32,
-) -> Result<(Vec<u32>, Vec<u16>), Refusal> {
+    destination: u32,
+) -> Result<Reached, Refusal> {
     check_start(network.junctions, source, departure)?;
+    Refusal::DESTINATION.unless(destination < network.junctions)?;
+    let destination = destination as usize;
     let mut labels = vec![UNREACHED; network.junctions as usize];
     let mut predecessors = vec![NO_ARC; network.junctions as usize];
     Search::new(network, closed).run(source, departure, &mut labels, &mut predecessors);
-    Ok((labels, predecessors))
+    let label = labels[destination];
+    Refusal::UNREACHED.unless(label != UNREACHED)?;
+    Ok(Reached {
+        label,
+        destination,
+        predecessors,
+    })
 }
 
 #[cfg(test)]
@@ -55,7 +86,7 @@ mod tests {
         destination: u32,
     ) -> (u32, Vec<u16>) {
         let closed = ClosedArcs::new(network.tails.len(), closures, asker);
-        let (labels, _) = reckon(network, closed, source, departure).expect("accepted");
+        let reached = reach(network, closed, source, departure, destination).expect("reached");
         let mut arcs = [7; 3];
         let reply = route(
             network,
@@ -69,7 +100,7 @@ mod tests {
         let count = reply.expect("accepted");
         let (arcs, behind) = arcs.split_at(count as usize);
         assert!(behind.iter().all(|&arc| arc == 7));
-        (labels[destination as usize], arcs.to_vec())
+        (reached.label, arcs.to_vec())
     }
 
     #[test]

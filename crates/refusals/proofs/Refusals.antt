@@ -8,7 +8,7 @@ use Rattle.refusals.specs.declared.refusal.Refusal.TheVariants.{Source, Departur
 use Rattle.refusals.specs.declared.refusal.Refusal.TheVariants.{TextLength, NoLineFeed, LineLength, UnknownMark, MarkOutOfTurn}
 use Rattle.refusals.specs.declared.refusal.Refusal.TheVariants.{FieldForm, FieldValue, LineMissing, TableTooShort}
 use Rattle.refusals.specs.declared.refusal.Refusal.TheVariants.{FormAlready, HoldDropped, OutputLength, ClosureCount, Closure, ClosureParty, Asker}
-use Rattle.refusals.specs.declared.refusal.Refusal.TheVariants.{DepartureCount, SheetLength, DepartureInterval, WeekList, VersionOrDay, WeekStore, Predecessors}
+use Rattle.refusals.specs.declared.refusal.Refusal.TheVariants.{DepartureCount, SheetLength, DepartureInterval, WeekList, VersionOrDay, WeekStore}
 
 pub number_fits : (refusal : Refusal) → number_of refusal < 100
 number_fits JunctionCount = omega arith
@@ -48,5 +48,4 @@ number_fits Asker = omega arith
 number_fits WeekList = omega arith
 number_fits VersionOrDay = omega arith
 number_fits WeekStore = omega arith
-number_fits Predecessors = omega arith
 number_fits DepartureInterval = omega arith

@@ -6,7 +6,7 @@ use Rattle.refusals.specs.declared.refusal.Refusal.TheVariants.{Source, Departur
 use Rattle.refusals.specs.declared.refusal.Refusal.TheVariants.{TextLength, NoLineFeed, LineLength, UnknownMark, MarkOutOfTurn}
 use Rattle.refusals.specs.declared.refusal.Refusal.TheVariants.{FieldForm, FieldValue, LineMissing, TableTooShort}
 use Rattle.refusals.specs.declared.refusal.Refusal.TheVariants.{FormAlready, HoldDropped, OutputLength, ClosureCount, Closure, ClosureParty, Asker}
-use Rattle.refusals.specs.declared.refusal.Refusal.TheVariants.{DepartureCount, SheetLength, DepartureInterval, WeekList, VersionOrDay, WeekStore, Predecessors}
+use Rattle.refusals.specs.declared.refusal.Refusal.TheVariants.{DepartureCount, SheetLength, DepartureInterval, WeekList, VersionOrDay, WeekStore}
 
 abbrev pub number_of : Refusal → ℕ
 number_of JunctionCount = 1
@@ -46,7 +46,6 @@ number_of Asker = 39
 number_of WeekList = 40
 number_of VersionOrDay = 41
 number_of WeekStore = 42
-number_of Predecessors = 43
 number_of DepartureInterval = 46
 
 -- "As 4,294,900,000 + its number": a refusal's code is this and its number.

@@ -50,8 +50,6 @@ pub enum Refusal {
     WeekList,
     VersionOrDay,
     WeekStore,
-    // The reader's: the predecessors do not lead back to the source.
-    Predecessors,
 }
 
 impl Refusal {
@@ -100,7 +98,6 @@ impl Refusal {
             Refusal::WeekList => 40,
             Refusal::VersionOrDay => 41,
             Refusal::WeekStore => 42,
-            Refusal::Predecessors => 43,
             Refusal::DepartureInterval => 46,
         }
     }

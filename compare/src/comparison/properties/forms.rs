@@ -2,12 +2,12 @@
 
 use crate::cabinet;
 use crate::comparison::{Check, Difference, Outcome};
+use crate::inputs::Random;
 use crate::inputs::damage::damage_text;
 use crate::inputs::networks::random_departure;
 use crate::inputs::texts::{
     FORMS, RandomTown, lines, pad, random_comments, random_town, random_town_of, with_comments,
 };
-use crate::inputs::{OwnedNetwork, Random};
 use crate::operations::CABINET;
 use crate::reference::limits::{MAX_ARCS, MAX_INTERVALS, MAX_TEXT};
 use crate::reference::{Counts, Form, LoadRefusal, Refusal};
@@ -178,7 +178,7 @@ pub fn there_and_back(text: &[u8]) -> Result<Outcome, Difference> {
 
 /// What Load counts in a text and writes.
 #[derive(Debug, PartialEq)]
-pub(super) struct Loaded {
+struct Loaded {
     counts: Counts,
     fences: Vec<u32>,
     tails: Vec<u16>,
@@ -188,24 +188,8 @@ pub(super) struct Loaded {
     speeds: Vec<u8>,
 }
 
-impl Loaded {
-    /// The entries alone.
-    pub fn network(&self) -> OwnedNetwork {
-        let (intervals, arcs) = (self.counts.intervals as usize, self.counts.arcs as usize);
-        OwnedNetwork {
-            junctions: self.counts.junctions,
-            fences: self.fences[..intervals].to_vec(),
-            tails: self.tails[..arcs].to_vec(),
-            heads: self.heads[..arcs].to_vec(),
-            lengths: self.lengths[..arcs].to_vec(),
-            holds: self.holds[..arcs].to_vec(),
-            speeds: self.speeds[..arcs * intervals].to_vec(),
-        }
-    }
-}
-
 /// The library's tables.
-pub(super) fn loaded(text: &[u8]) -> Result<Loaded, LoadRefusal> {
+fn loaded(text: &[u8]) -> Result<Loaded, LoadRefusal> {
     let mut fences = vec![7; MAX_INTERVALS];
     let mut tails = vec![7; MAX_ARCS];
     let mut heads = vec![7; MAX_ARCS];

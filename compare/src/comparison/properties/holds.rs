@@ -139,19 +139,11 @@ fn hold_table(random: &mut Random) -> Result<Outcome, Difference> {
         end: 0,
         party: 3,
     };
-    // And to the reader the predecessors, for theirs.
-    let unknown = network.junctions;
-    let read = cabinet::route_read(&network.lent(), unknown, unknown, &[], &mut []);
-    let found = (
-        check,
-        refused_by_the_source(&network, &[wrong; 65], 0),
-        read,
-    );
-    let expected = (expected, [after_network; 5], expected.and(Err(Refusal(11))));
+    let found = (check, refused_by_the_source(&network, &[wrong; 65], 0));
+    let expected = (expected, [after_network; 5]);
     if found != expected {
         return Err(Difference {
-            question: "network check, labels, passes, tables check, route, sheet and route read"
-                .to_owned(),
+            question: "network check, labels, passes, tables check, route and sheet".to_owned(),
             input: shown(&network),
             expected: format!("{expected:?}"),
             found: format!("{found:?}"),

@@ -113,14 +113,14 @@ fn either_of_two_arcs(random: &mut Random) -> Result<Outcome, Difference> {
 
 /// The same question with all arcs repeated after themselves, or as many of them as there is
 /// room for; their number without that is the second.
-pub(super) fn arcs_twice(mut question: Question) -> (Question, u16) {
+fn arcs_twice(mut question: Question) -> (Question, u16) {
     question.closures.truncate(MAX_CLOSURES / 2);
     let half = question.network.arcs().min(MAX_ARCS / 2);
     let once: Vec<usize> = (0..half).collect();
     (question.renumbered(&once.repeat(2)), half as u16)
 }
 
-pub(super) fn random_question(random: &mut Random) -> Question {
+fn random_question(random: &mut Random) -> Question {
     let network = random_network(random);
     let source = random.below(network.junctions);
     let departure = random_departure(random, &network.fences);

@@ -2,29 +2,22 @@
 -- the reply.
 use Prim.Native.Nat.{ℕ}
 use mathlib.Core.Path.{◌≡◌, refl, sym, ap, ◌∙◌}
-use mathlib.Core.Bool.{false, not}
+use mathlib.Core.Bool.{not}
 use mathlib.Core.List.{List}
 use mathlib.Core.Option.{Option, some}
-use native.Mathlib.Omega.{arith}
-use mir.Syntax.{w32}
-use mir.Val.{Fits}
 use lib.Dec.{eqb}
 use lib.ListN.{length}
 use borrow.Author.Tests.{not-false, eqb-true, ltb-false, leb-true, eq-eqb, le-ltb, le-leb}
-use Rattle.model.specs.Ticks.{last, arrived_at}
-use Rattle.model.specs.declared.tick.Tick.{Tick}
-use Rattle.model.specs.declared.tick.Arrival.{Arrival}
-use Rattle.model.specs.declared.tick.Arrival.TheVariants.{At}
+use Rattle.model.specs.Ticks.{last}
 use Rattle.model.specs.Limits.{max_speed, max_hold}
 use Rattle.model.specs.Flow.{spans_of}
 use Rattle.model.specs.Holds.{arrival_with_hold}
 use Rattle.model.specs.Intervals.{speed_at, tick_and_interval?, contains?}
-use Rattle.model.specs.Rules.{AllKept, replied, first_broken, count_keeps, fences_keep_lem, length_keeps_lem, hold_keeps}
+use Rattle.model.specs.Rules.{AllKept, replied, first_broken, fences_keep_lem, length_keeps_lem, hold_keeps}
 use Rattle.model.proofs.Containing.{interval_contains, test_contains, contains_test}
 use Rattle.model.proofs.Rules.{kept_replies, replies_kept, kept_count, count_kept, kept_length, length_kept, kept_within, within_kept, fences_kept, kept_fences}
 use Rattle.model.proofs.WithInterval.{arrived_at_law}
 use Rattle.driving.specs.ArcKept.{ArcKept}
-use Rattle.driving.specs.InPlan.{InPlan}
 use Rattle.arc_arrival.specs.ArcArrival.{arc_rules, arc_arrival_lem, ArcAccepted, ArcRepliesWhenAccepted, ArcGivesInterval}
 
 module _ (departure interval metres hold : ℕ) (fences speeds : List ℕ) where
@@ -81,14 +74,9 @@ module _ (departure interval metres hold : ℕ) (fences speeds : List ℕ) where
           as_many = accepted.as_many;
         }
 
-    pub engine_replies : {driven told : Arrival} → (ArcKept departure interval metres fences speeds → arrived_at driven ≡ reply) → driven ≡ told →
-        replied (arrived_at told) ≡ arc_arrival_lem departure interval metres hold fences speeds
-    engine_replies promise same = ap (λ a. replied (arrived_at a)) (sym same) ∙ ap replied (promise arc_kept) ∙ sym (replies kept)
-
--- The arrival's interval is one of the plan's, which has few.
-pub interval_fits : (fences : List ℕ) {driven : Arrival} {tick : Tick} {number : ℕ} → not (count_keeps fences) ≡ false → InPlan fences driven →
-    driven ≡ At tick number → Fits w32 number
-interval_fits fences kept in_plan same = omega (arith, rw same at in_plan, (kept_count fences kept).1)
+    pub engine_replies : {arrived : Option (ℕ × ℕ)} → (ArcKept departure interval metres fences speeds → arrived ≡ reply) →
+        replied arrived ≡ arc_arrival_lem departure interval metres hold fences speeds
+    engine_replies promise = ap replied (promise arc_kept) ∙ sym (replies kept)
 
 pub arc_replies_when_accepted : ArcRepliesWhenAccepted
 unfolding arc_arrival_lem

@@ -18,6 +18,7 @@ pub enum ArcArrival {
 
 // The interval is the departure's; the length is in metres; the hold is in ticks, and any number; the speeds are the arc's own, one for each
 // interval.
+#[tactic(auto, unfolding(model::specs::Rules::first_broken, crate::specs::ArcArrival::arc_arrival_lem))]
 pub fn arc_arrival(
     departure: Tick,
     interval: u32,

@@ -1,0 +1,10 @@
+-- `speeds::short_speeds`: at each turn, if a word ends here, what the numbers left come to is what all of them come to. Each
+-- number has at most 4 bytes with its space, so there are enough.
+use native.Mathlib.Omega.{arith}
+use Rattle.number_rows.proofs.ShortSpeeds.{row_goes_on}
+use Rattle.number_rows.proofs.speeds.short_speeds.Goals as goal
+
+pub loop-k-preserved : goal.loop-k-preserved
+loop-k-preserved c =
+    let field = c.in-To.ensures in
+    (row_goes_on _ _ _ _ _ c.loop-k.invariant.0 (omega arith) c.loop-k-test.true field, omega arith, omega (arith, field.digits.near))

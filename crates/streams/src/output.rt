@@ -1,43 +1,51 @@
 // Writing.
-ghost use Rattle.streams.specs.Transfer.{Within};
+ghost use Rattle.std.specs.Io.{WritesAtMost};
 
-use crate::transfer::{MAX_TRIES, Transfer};
-use libc::STDERR_FILENO;
+use crate::reason::fail;
+use crate::transfer::MAX_TRIES;
+use std::io::{self, ErrorKind, Write};
 
 // One write, tried again where it is interrupted.
-fn write_part(descriptor: i32, part: &[u8]) -> Transfer
-    ensures { Within result part.now }
+fn write_part<W: Write>(writer: &mut W, part: &[u8]) -> io::Result<usize>
+    ensures { WritesAtMost result part.now }
 {
-    let mut tries = 0;
-    while tries < MAX_TRIES {
-        let put = libc::write(descriptor, part);
-        if put >= 0 {
-            return Transfer::Bytes(io::count(put, part));
+    for _ in 1..MAX_TRIES {
+        match writer.write(part) {
+            Ok(count) => return Ok(count),
+            Err(error) => {
+                if error.kind() != ErrorKind::Interrupted {
+                    return Err(error);
+                }
+            }
         }
-        if os::errno() != libc::EINTR {
-            return Transfer::Failed;
-        }
-        tries += 1;
     }
-    Transfer::Failed
+    writer.write(part)
 }
 
-// A write that moves no bytes and does not fail leaves no reason in errno.
-fn fail_unmoved(name: &[u8]) {
-    io::write_all(STDERR_FILENO, name);
-    io::write_all(STDERR_FILENO, b": no byte was taken\n");
+// A write that moves no bytes and does not fail gives no reason.
+fn fail_unmoved<E: Write>(errors: &mut E, name: &[u8]) {
+    let _ = errors.write_all(name);
+    let _ = errors.write_all(b": no byte was taken\n");
 }
 
 // Writes all of the text, and answers whether it did. Where a write fails, standard error says so under the name.
-pub fn write_all(descriptor: i32, name: &[u8], text: &[u8]) -> bool {
+pub fn write_all<W: Write, E: Write>(
+    writer: &mut W,
+    errors: &mut E,
+    name: &[u8],
+    text: &[u8],
+) -> bool {
     let mut length = 0;
     while length < text.len() {
-        let Transfer::Bytes(count) = write_part(descriptor, &text[length..]) else {
-            os::fail(name);
-            return false;
+        let count = match write_part(writer, &text[length..]) {
+            Ok(count) => count,
+            Err(error) => {
+                fail(errors, name, &error);
+                return false;
+            }
         };
         if count == 0 {
-            fail_unmoved(name);
+            fail_unmoved(errors, name);
             return false;
         }
         length += count;

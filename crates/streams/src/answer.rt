@@ -1,4 +1,6 @@
 // A program's answer: its text is written, and its exit status says what became of it.
+ghost use Rattle.std.specs.Prelude.{◌≢◌, pos};
+ghost use Rattle.std.specs.Io.KnownBytes.{Appends};
 ghost use Rattle.streams.specs.Exit.{status_when, AnswersOrFails};
 
 use crate::output::write_all;
@@ -17,7 +19,8 @@ pub fn print_answer<W: Write, E: Write>(
     text: &[u8],
     refused: bool,
 ) -> i32
-    ensures { AnswersOrFails (status_when refused) result }
+    ensures status { AnswersOrFails (status_when refused) result }
+    ensures written { result ≢ pos 2 → Appends (W.contents output.old) (W.contents output.new) text.now }
 {
     if !write_all(output, errors, b"standard output", text) {
         return FAILED;

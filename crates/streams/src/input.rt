@@ -1,6 +1,7 @@
 // Reading.
 ghost use Rattle.std.specs.Io.{ReadsAtMost};
-ghost use Rattle.streams.specs.Transfer.{Within};
+ghost use Rattle.std.specs.Io.KnownBytes.{ReadConsumes};
+ghost use Rattle.streams.specs.Transfer.{Within, ReadsWhole};
 
 use crate::reason::fail;
 use crate::transfer::{MAX_TRIES, Transfer};
@@ -11,7 +12,8 @@ pub const ROOM: usize = 65_537;
 
 // One read, tried again where it is interrupted. It moves no bytes where the input ends.
 fn read_part<R: Read>(reader: &mut R, part: &mut [u8]) -> io::Result<usize>
-    ensures { ReadsAtMost result part.new }
+    ensures within { ReadsAtMost result part.new }
+    ensures bytes { ReadConsumes (R.remaining reader.old) (R.remaining reader.new) result part.new }
 {
     for _ in 1..MAX_TRIES {
         match reader.read(part) {
@@ -33,7 +35,8 @@ pub fn read_all<R: Read, E: Write>(
     name: &[u8],
     buffer: &mut [u8],
 ) -> Transfer
-    ensures { Within result buffer.new }
+    ensures within { Within result buffer.new }
+    ensures whole { ReadsWhole result (R.remaining reader.old) (R.remaining reader.new) buffer.new }
 {
     let mut length = 0;
     while length < buffer.len() {
@@ -57,7 +60,8 @@ pub fn read_input<R: Read, E: Write>(
     errors: &mut E,
     input: &mut [u8; ROOM],
 ) -> Transfer
-    ensures { Within result input.new }
+    ensures within { Within result input.new }
+    ensures whole { ReadsWhole result (R.remaining reader.old) (R.remaining reader.new) input.new }
 {
     read_all(reader, errors, b"standard input", input)
 }

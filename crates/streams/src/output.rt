@@ -1,5 +1,7 @@
 // Writing.
+ghost use Rattle.std.specs.Bool.{OnTrue};
 ghost use Rattle.std.specs.Io.{WritesAtMost};
+ghost use Rattle.std.specs.Io.KnownBytes.{Appends, WriteAppends};
 
 use crate::reason::fail;
 use crate::transfer::MAX_TRIES;
@@ -7,7 +9,8 @@ use std::io::{self, ErrorKind, Write};
 
 // One write, tried again where it is interrupted.
 fn write_part<W: Write>(writer: &mut W, part: &[u8]) -> io::Result<usize>
-    ensures { WritesAtMost result part.now }
+    ensures within { WritesAtMost result part.now }
+    ensures bytes { WriteAppends (W.contents writer.old) (W.contents writer.new) result part.now }
 {
     for _ in 1..MAX_TRIES {
         match writer.write(part) {
@@ -34,7 +37,9 @@ pub fn write_all<W: Write, E: Write>(
     errors: &mut E,
     name: &[u8],
     text: &[u8],
-) -> bool {
+) -> bool
+    ensures { OnTrue result (Appends (W.contents writer.old) (W.contents writer.new) text.now) }
+{
     let mut length = 0;
     while length < text.len() {
         let count = match write_part(writer, &text[length..]) {

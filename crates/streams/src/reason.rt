@@ -52,7 +52,7 @@ fn write_words<E: Write>(errors: &mut E, text: &[u8]) {
 }
 
 // One line: what failed, a colon and why. There is nowhere to say that this line failed.
-pub(crate) fn fail<E: Write>(errors: &mut E, name: &[u8], error: &Error) {
+pub fn fail<E: Write>(errors: &mut E, name: &[u8], error: &Error) {
     let mut reason = Reason {
         bytes: [0; ROOM],
         length: 0,

@@ -1,0 +1,86 @@
+-- `line::read_line`: by the mark, each kind of line is the whole line.
+use borrow.Author.Rules.{rules}
+use Prim.Native.Nat.{ℕ, ◌+◌}
+use mathlib.Core.Path.{◌≡◌, refl, sym, ap, ◌∙◌}
+use mathlib.Core.Bool.{true}
+use mathlib.Core.List.{List, [], ◌∷◌}
+use mathlib.Core.Logic.{inl, inr}
+use native.Mathlib.Omega.{arith}
+use types.Run.{OneOf}
+use Rattle.townfile.specs.Lines.{mark_tN, mark_tW, mark_fN, mark_jN, mark_aR, mark_cM, first_two, mark_of, known}
+use Rattle.townfile.proofs.Marks.{two_mark, mark_two, held_mark, town_two}
+use Rattle.fields.specs.Fields.{line_from}
+use Rattle.fields.proofs.BehindMark.{BehindMark, behind_mark_law}
+use Rattle.reading.proofs.LineMarks.{town_line_is, fences_line_is, junction_line_is, arc_line_is, comment_line_is, no_line_is}
+use Rattle.reading.proofs.line.read_line.Goals as goal
+use Prim.Native.Nat.{◌<◌}
+use lib.ListN.{get_or}
+
+-- the line behind a known mark
+behind : (text : List ℕ) (at : ℕ) → get_or text (at + 1) 0 < 256 → {mark : ℕ} → known mark ≡ true → mark_of (line_from text at) ≡ mark → BehindMark text at
+behind text at byte k e = behind_mark_law text at byte (ap known e ∙ k)
+
+-- either of the two that begin a file
+town : (line : List ℕ) {found : ℕ} → found ≡ first_two line → OneOf (mark_tN ∷ mark_tW ∷ []) found → mark_of line ≡ mark_tN
+town line f (inl e) = two_mark line (sym f ∙ e) (λ e. omega arith)
+town line f (inr e) = held_mark line (sym f ∙ e)
+
+pub returns-in-21582 : goal.returns-in-21582
+returns-in-21582 c =
+    let mark = town (line_from c.args.text.now c.args.at) c.mark_at-mark.ensures c.in-21582.is in
+    c.town_line.ensures ∙ town_line_is _ _ _ _ (behind _ _ (c.type_inv.text (c.args.at + 1)).fits refl mark) mark (rw (← c.mark_at-mark.ensures))
+
+pub overflow_add-at : goal.overflow_add-at
+overflow_add-at c =
+    let mark = town (line_from c.args.text.now c.args.at) c.mark_at-mark.ensures c.in-21582.is in
+    record { fits = omega (arith, (behind _ _ (c.type_inv.text (c.args.at + 1)).fits refl mark).inside) }
+
+pub returns-in-17998 : goal.returns-in-17998
+returns-in-17998 c =
+    let mark = two_mark (line_from c.args.text.now c.args.at) (sym c.mark_at-mark.ensures ∙ c.in-17998.is) (λ e. omega arith) in
+    c.fences_line.ensures ∙ fences_line_is _ _ _ (behind _ _ (c.type_inv.text (c.args.at + 1)).fits refl mark) mark
+
+pub overflow_add-at-in-17998 : goal.overflow_add-at-in-17998
+overflow_add-at-in-17998 c =
+    let mark = two_mark (line_from c.args.text.now c.args.at) (sym c.mark_at-mark.ensures ∙ c.in-17998.is) (λ e. omega arith) in
+    record { fits = omega (arith, (behind _ _ (c.type_inv.text (c.args.at + 1)).fits refl mark).inside) }
+
+pub returns-in-19022 : goal.returns-in-19022
+returns-in-19022 c =
+    let mark = two_mark (line_from c.args.text.now c.args.at) (sym c.mark_at-mark.ensures ∙ c.in-19022.is) (λ e. omega arith) in
+    c.junction_line.ensures ∙ junction_line_is _ _ _ (behind _ _ (c.type_inv.text (c.args.at + 1)).fits refl mark) mark
+
+pub overflow_add-at-in-19022 : goal.overflow_add-at-in-19022
+overflow_add-at-in-19022 c =
+    let mark = two_mark (line_from c.args.text.now c.args.at) (sym c.mark_at-mark.ensures ∙ c.in-19022.is) (λ e. omega arith) in
+    record { fits = omega (arith, (behind _ _ (c.type_inv.text (c.args.at + 1)).fits refl mark).inside) }
+
+pub returns-in-16722 : goal.returns-in-16722
+returns-in-16722 c =
+    let mark = two_mark (line_from c.args.text.now c.args.at) (sym c.mark_at-mark.ensures ∙ c.in-16722.is) (λ e. omega arith) in
+    c.arc_line.ensures ∙ arc_line_is _ _ _ (behind _ _ (c.type_inv.text (c.args.at + 1)).fits refl mark) mark
+
+pub overflow_add-at-in-16722 : goal.overflow_add-at-in-16722
+overflow_add-at-in-16722 c =
+    let mark = two_mark (line_from c.args.text.now c.args.at) (sym c.mark_at-mark.ensures ∙ c.in-16722.is) (λ e. omega arith) in
+    record { fits = omega (arith, (behind _ _ (c.type_inv.text (c.args.at + 1)).fits refl mark).inside) }
+
+pub returns-in-17229 : goal.returns-in-17229
+returns-in-17229 c =
+    let mark = two_mark (line_from c.args.text.now c.args.at) (sym c.mark_at-mark.ensures ∙ c.in-17229.is) (λ e. omega arith) in
+    c.comment_line.ensures ∙ comment_line_is _ _ _ (behind _ _ (c.type_inv.text (c.args.at + 1)).fits refl mark) mark
+
+pub overflow_add-at-in-17229 : goal.overflow_add-at-in-17229
+overflow_add-at-in-17229 c =
+    let mark = two_mark (line_from c.args.text.now c.args.at) (sym c.mark_at-mark.ensures ∙ c.in-17229.is) (λ e. omega arith) in
+    record { fits = omega (arith, (behind _ _ (c.type_inv.text (c.args.at + 1)).fits refl mark).inside) }
+
+pub returns-in_default : goal.returns-in_default
+returns-in_default c =
+    let line = line_from c.args.text.now c.args.at in
+    let is : c.mark_at-mark.result ≡ first_two line = c.mark_at-mark.ensures in
+    let no_town : OneOf (mark_tN ∷ mark_tW ∷ []) c.mark_at-mark.result → ⊥ = search rules in
+    let other : (mark : ℕ) → (mark ≡ mark_tN → ⊥) → (c.mark_at-mark.result ≡ mark → ⊥) → mark_of line ≡ mark → ⊥ =
+    λ mark town no e. no (is ∙ mark_two line e town) in
+    no_line_is _ _ _ (λ e. town_two line e (λ e. no_town (inl (is ∙ e))) (λ e. no_town (inr (is ∙ e)))) (other mark_fN (λ e. omega arith) (search rules))
+    (other mark_jN (λ e. omega arith) (search rules)) (other mark_aR (λ e. omega arith) (search rules)) (other mark_cM (λ e. omega arith) (search rules))

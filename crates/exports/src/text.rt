@@ -2,7 +2,7 @@
 ghost use Rattle.std.specs.Prelude.{◌≡◌, true, false};
 ghost use Rattle.townfile.specs.Load.{load_answer, tables_after};
 ghost use Rattle.townfile.specs.Name.{name_place_lem};
-ghost use Rattle.townfile.specs.Lent.{lent_tables, left_tables};
+ghost use Rattle.townfile.specs.Lent.{tables_to_fill, left_tables};
 ghost use Rattle.exports.specs.Codes.{load_code_lem, length_code_lem, place_code};
 ghost use Rattle.conversion.specs.Conversion.{convert_answer, output_after};
 ghost use Rattle.converting.specs.Converted.{reading_of};
@@ -23,8 +23,8 @@ pub extern "C" fn exports_load(
     holds: &mut [u16],
     speeds: &mut [u8],
 ) -> u64
-    ensures answer { result ≡ load_code_lem (load_answer text.now (lent_tables fences tails heads lengths holds speeds)) }
-    ensures tables { left_tables fences tails heads lengths holds speeds ≡ tables_after text.now (lent_tables fences tails heads lengths holds speeds) }
+    ensures answer { result ≡ load_code_lem (load_answer text.now (tables_to_fill fences tails heads lengths holds speeds)) }
+    ensures tables { left_tables fences tails heads lengths holds speeds ≡ tables_after text.now (tables_to_fill fences tails heads lengths holds speeds) }
 {
     match load(text, fences, tails, heads, lengths, holds, speeds) {
         Loaded::Counts {

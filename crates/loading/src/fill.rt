@@ -4,7 +4,7 @@ ghost use Rattle.std.proofs.lemmas.List.Edits.{sets};
 ghost use Rattle.townfile.specs.Grammar.{network_of};
 ghost use Rattle.townfile.specs.Tables.{town_of};
 ghost use Rattle.townfile.specs.Load.{holding};
-ghost use Rattle.townfile.specs.Lent.{lent_tables, left_tables};
+ghost use Rattle.townfile.specs.Lent.{tables_to_fill, left_tables};
 ghost use Rattle.fields.specs.Fields.{line_from, field_keeps, numbers_from};
 ghost use Rattle.loading.specs.Code.Filling.{EndsInside, taken_at, NumbersFill, SpeedsFill, Behind, ArcFills, Fillable};
 
@@ -154,7 +154,7 @@ pub(crate) fn fill(
 )
     requires { Fillable intervals held text.now fences.old tails.old heads.old lengths.old holds.old speeds.old }
     ensures { left_tables fences tails heads lengths holds speeds ≡
-        holding (network_of (town_of text.now)) (lent_tables fences tails heads lengths holds speeds) }
+        holding (network_of (town_of text.now)) (tables_to_fill fences tails heads lengths holds speeds) }
 {
     let mut at = 0;
     let mut fence = 0;

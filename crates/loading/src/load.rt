@@ -1,7 +1,7 @@
 // Load: a town file into the lent tables of a network.
 ghost use Rattle.std.specs.Prelude.{◌≡◌, ◌||◌, ltb};
 ghost use Rattle.townfile.specs.Load.{lacks_room_lem, load_answer, tables_after};
-ghost use Rattle.townfile.specs.Lent.{lent_tables, left_tables};
+ghost use Rattle.townfile.specs.Lent.{tables_to_fill, left_tables};
 ghost use Rattle.loading.specs.Loaded.{reading_of};
 
 use crate::fill::fill;
@@ -74,9 +74,9 @@ pub fn load(
     holds: &mut [u16],
     speeds: &mut [u8],
 ) -> Loaded
-    ensures answer { reading_of result ≡ load_answer text.now (lent_tables fences tails heads lengths holds speeds) }
+    ensures answer { reading_of result ≡ load_answer text.now (tables_to_fill fences tails heads lengths holds speeds) }
     ensures tables { left_tables fences tails heads lengths holds speeds ≡
-        tables_after text.now (lent_tables fences tails heads lengths holds speeds) }
+        tables_after text.now (tables_to_fill fences tails heads lengths holds speeds) }
 {
     match scan(text) {
         Scanned::Refused { refusal, line } => Loaded::Refused { refusal, line },

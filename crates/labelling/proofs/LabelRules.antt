@@ -41,7 +41,7 @@ module _ (N : Network) (asker source departure : ℕ) (labels predecessors : Lis
 
   -- Where the question is taken, the rule on the buffers decides.
   module _ (taken : AllKept (question_rules N asker source departure)) where
-    rest_decides : answer ≡ first_broken buffers tt
+    pub rest_decides : answer ≡ first_broken buffers tt
     unfolding labels_answer
     rest_decides = kept_before (question_rules N asker source departure) buffers tt taken
 

@@ -1,34 +1,37 @@
 // Buses on the same tables, by document 02, order 8: whom a closure stops, and the refusals of a party and of an asker in their place among the others.
 use crate::roadworks::print_streets;
-use libc::STDOUT_FILENO;
 use model::party::{BOTH, BRIGADE, DEPOT};
+use std::io;
 
-fn print_asked(departure: u32, closures: &[[u32; 4]], asker: u32) {
-    io::write_all(STDOUT_FILENO, b"asker ");
-    io::print_decimal(STDOUT_FILENO, asker as u64);
-    io::write_all(STDOUT_FILENO, b", ");
-    print_streets(departure, 0, closures, asker);
+fn print_asked(
+    rt: &impl Print,
+    departure: u32,
+    closures: &[[u32; 4]],
+    asker: u32,
+) -> io::Result<()> {
+    print!(rt; "asker {asker}, ")?;
+    print_streets(rt, departure, 0, closures, asker)
 }
 
-fn print_one(asker: u32, row: [u32; 4]) {
+fn print_one(rt: &impl Print, asker: u32, row: [u32; 4]) -> io::Result<()> {
     let rows = [row; 1];
-    print_asked(100, &rows, asker);
+    print_asked(rt, 100, &rows, asker)
 }
 
-fn print_two(asker: u32, a: [u32; 4], b: [u32; 4]) {
+fn print_two(rt: &impl Print, asker: u32, a: [u32; 4], b: [u32; 4]) -> io::Result<()> {
     let rows = [a, b];
-    print_asked(100, &rows, asker);
+    print_asked(rt, 100, &rows, asker)
 }
 
 // The first street is closed to a party, or to both, from the departure on.
-fn print_stopped(asker: u32) {
-    print_one(asker, [0, 100, 105, BOTH]);
-    print_one(asker, [0, 100, 105, BRIGADE]);
-    print_one(asker, [0, 100, 105, DEPOT]);
+fn print_stopped(rt: &impl Print, asker: u32) -> io::Result<()> {
+    print_one(rt, asker, [0, 100, 105, BOTH])?;
+    print_one(rt, asker, [0, 100, 105, BRIGADE])?;
+    print_one(rt, asker, [0, 100, 105, DEPOT])
 }
 
 // Two lists with the same records for both and for the brigade. The depot's differ in number, place and order, and not in what they close.
-fn print_others(asker: u32) {
+fn print_others(rt: &impl Print, asker: u32) -> io::Result<()> {
     let first = [
         [1, 0, 1_000, DEPOT],
         [0, 100, 105, BRIGADE],
@@ -42,47 +45,47 @@ fn print_others(asker: u32) {
         [0, 0, 1_000, DEPOT],
         [1, 0, 1_000, DEPOT],
     ];
-    print_asked(100, &first, asker);
-    print_asked(100, &second, asker);
+    print_asked(rt, 100, &first, asker)?;
+    print_asked(rt, 100, &second, asker)
 }
 
 // As many records as a question may bring, and one more, whoever asks.
-fn print_lists(party: u32) {
+fn print_lists(rt: &impl Print, party: u32) -> io::Result<()> {
     let most = [[0, 100, 105, party]; 64];
     let too_many = [[0, 100, 105, party]; 65];
-    print_asked(100, &most, BRIGADE);
-    print_asked(100, &too_many, BRIGADE);
+    print_asked(rt, 100, &most, BRIGADE)?;
+    print_asked(rt, 100, &too_many, BRIGADE)
 }
 
 // Who is not known is refused, with records and without, before the departure is looked at.
-fn print_unknown(asker: u32) {
+fn print_unknown(rt: &impl Print, asker: u32) -> io::Result<()> {
     let none = [[0u32; 4]; 0];
-    print_asked(100, &none, asker);
-    print_asked(864_000, &none, asker);
-    print_one(asker, [0, 100, 105, BOTH]);
+    print_asked(rt, 100, &none, asker)?;
+    print_asked(rt, 864_000, &none, asker)?;
+    print_one(rt, asker, [0, 100, 105, BOTH])
 }
 
-pub(crate) fn print_rows() {
-    print_stopped(BRIGADE);
-    print_stopped(DEPOT);
-    print_others(BRIGADE);
-    print_others(DEPOT);
+pub(crate) fn print_rows(rt: &impl Print) -> io::Result<()> {
+    print_stopped(rt, BRIGADE)?;
+    print_stopped(rt, DEPOT)?;
+    print_others(rt, BRIGADE)?;
+    print_others(rt, DEPOT)?;
     // A record of each on the same street: the asker waits for its own and for both.
-    print_two(BRIGADE, [0, 100, 103, DEPOT], [0, 102, 106, BRIGADE]);
-    print_two(DEPOT, [0, 100, 103, DEPOT], [0, 102, 106, BRIGADE]);
-    print_two(DEPOT, [0, 100, 103, DEPOT], [0, 102, 106, BOTH]);
+    print_two(rt, BRIGADE, [0, 100, 103, DEPOT], [0, 102, 106, BRIGADE])?;
+    print_two(rt, DEPOT, [0, 100, 103, DEPOT], [0, 102, 106, BRIGADE])?;
+    print_two(rt, DEPOT, [0, 100, 103, DEPOT], [0, 102, 106, BOTH])?;
     // The depot's records are counted, and held to 37 and 38, when the brigade asks.
-    print_lists(DEPOT);
-    print_one(BRIGADE, [2, 0, 1, DEPOT]);
-    print_one(BRIGADE, [0, 101, 101, DEPOT]);
+    print_lists(rt, DEPOT)?;
+    print_one(rt, BRIGADE, [2, 0, 1, DEPOT])?;
+    print_one(rt, BRIGADE, [0, 101, 101, DEPOT])?;
     // A party on both sides of its limit. 37 in a later record comes first.
-    print_one(BRIGADE, [0, 100, 105, 3]);
-    print_one(BRIGADE, [0, 100, 105, 4_294_967_295]);
-    print_two(BRIGADE, [0, 100, 105, 3], [2, 0, 1, BOTH]);
-    print_two(BRIGADE, [0, 100, 105, BOTH], [1, 0, 1, 3]);
+    print_one(rt, BRIGADE, [0, 100, 105, 3])?;
+    print_one(rt, BRIGADE, [0, 100, 105, 4_294_967_295])?;
+    print_two(rt, BRIGADE, [0, 100, 105, 3], [2, 0, 1, BOTH])?;
+    print_two(rt, BRIGADE, [0, 100, 105, BOTH], [1, 0, 1, 3])?;
     // 39, and 38 before it.
-    print_unknown(0);
-    print_unknown(3);
-    print_unknown(4_294_967_295);
-    print_one(3, [0, 100, 105, 3]);
+    print_unknown(rt, 0)?;
+    print_unknown(rt, 3)?;
+    print_unknown(rt, 4_294_967_295)?;
+    print_one(rt, 3, [0, 100, 105, 3])
 }

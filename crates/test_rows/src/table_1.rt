@@ -1,12 +1,13 @@
 // Document 004's Table 1 network: its labels and its routes.
 use crate::{print_entry, print_labels, print_route};
-use libc::STDOUT_FILENO;
 use model::party::BRIGADE;
 use model::tick::Tick;
 use routing::route::route;
+use std::io;
 
 // The route from the first of five junctions to the last, and a list of three.
 fn print_route_of_5(
+    rt: &impl Print,
     fences: &[u32],
     tails: &[u16],
     heads: &[u16],
@@ -14,32 +15,35 @@ fn print_route_of_5(
     holds: &[u16],
     speeds: &[u8],
     departure: u32,
-) {
+) -> io::Result<()> {
     let mut arcs = [9u16; 3];
     let no_closures = [[0u32; 4]; 0];
-    print_route(route(
-        5,
-        fences,
-        tails,
-        heads,
-        lengths,
-        holds,
-        speeds,
-        &no_closures,
-        BRIGADE,
-        0,
-        Tick { number: departure },
-        4,
-        &mut arcs,
-    ));
-    io::write_all(STDOUT_FILENO, b", list");
-    print_entry(arcs[0]);
-    print_entry(arcs[1]);
-    print_entry(arcs[2]);
+    print_route(
+        rt,
+        route(
+            5,
+            fences,
+            tails,
+            heads,
+            lengths,
+            holds,
+            speeds,
+            &no_closures,
+            BRIGADE,
+            0,
+            Tick { number: departure },
+            4,
+            &mut arcs,
+        ),
+    )?;
+    print!(rt; ", list")?;
+    print_entry(rt, arcs[0])?;
+    print_entry(rt, arcs[1])?;
+    print_entry(rt, arcs[2])
 }
 
 // Document 004's Table 1 network: o, a, b, c, d as 0 to 4. After the labels comes the route to d.
-pub(crate) fn print_table_1(departure: u32) {
+pub(crate) fn print_table_1(rt: &impl Print, departure: u32) -> io::Result<()> {
     let fences = [
         0u32, 6_000, 12_000, 18_000, 24_000, 30_000, 36_000, 42_000, 48_000,
     ];
@@ -54,11 +58,10 @@ pub(crate) fn print_table_1(departure: u32) {
     ];
     let mut earliest = [0u32; 5];
     let mut predecessors = [0u16; 5];
-    io::write_all(STDOUT_FILENO, b"Table 1 from ");
-    io::print_decimal(STDOUT_FILENO, departure as u64);
-    io::write_all(STDOUT_FILENO, b":");
+    print!(rt; "Table 1 from {departure}:")?;
     let no_closures = [[0u32; 4]; 0];
     print_labels(
+        rt,
         5,
         &fences,
         &tails,
@@ -71,10 +74,10 @@ pub(crate) fn print_table_1(departure: u32) {
         departure,
         &mut earliest,
         &mut predecessors,
-    );
-    io::write_all(STDOUT_FILENO, b"; route:");
+    )?;
+    print!(rt; "; route:")?;
     print_route_of_5(
-        &fences, &tails, &heads, &lengths, &holds, &speeds, departure,
-    );
-    io::write_all(STDOUT_FILENO, b"\n");
+        rt, &fences, &tails, &heads, &lengths, &holds, &speeds, departure,
+    )?;
+    println!(rt)
 }

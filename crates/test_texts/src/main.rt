@@ -2,10 +2,12 @@
 // entry is 9 before a call.
 #![tactic(auto)]
 
-use libc::STDOUT_FILENO;
 use loading::load::{Loaded, load};
 use naming::name::name;
+use std::fs::File;
+use std::{env, io};
 use streams::input::read_all;
+use streams::reason::fail;
 use streams::transfer::Transfer;
 
 mod parts;
@@ -15,9 +17,8 @@ const ROOM: usize = 65_538;
 
 // ---- Numbers, each after a space
 
-pub(crate) fn print_number(number: u64) {
-    io::write_all(STDOUT_FILENO, b" ");
-    io::print_decimal(STDOUT_FILENO, number);
+pub(crate) fn print_number(rt: &impl Print, number: u64) -> io::Result<()> {
+    print!(rt; " {number}")
 }
 
 fn wide_u32(entry: u32) -> u64 {
@@ -33,81 +34,75 @@ fn wide_u8(entry: u8) -> u64 {
 }
 
 // The entry at a place, if the table has it.
-fn print_u32(table: &[u32], at: usize) {
+fn print_u32(rt: &impl Print, table: &[u32], at: usize) -> io::Result<()> {
     if at < table.len() {
-        print_number(wide_u32(table[at]));
+        print_number(rt, wide_u32(table[at]))?;
     }
+    Ok(())
 }
 
-fn print_u16(table: &[u16], at: usize) {
+fn print_u16(rt: &impl Print, table: &[u16], at: usize) -> io::Result<()> {
     if at < table.len() {
-        print_number(wide_u16(table[at]));
+        print_number(rt, wide_u16(table[at]))?;
     }
+    Ok(())
 }
 
-fn print_u8(table: &[u8], at: usize) {
+fn print_u8(rt: &impl Print, table: &[u8], at: usize) -> io::Result<()> {
     if at < table.len() {
-        print_number(wide_u8(table[at]));
+        print_number(rt, wide_u8(table[at]))?;
     }
+    Ok(())
 }
 
 // The entries from one place up to another.
-pub(crate) fn print_u32s(table: &[u32], from: usize, to: usize) {
+pub(crate) fn print_u32s(rt: &impl Print, table: &[u32], from: usize, to: usize) -> io::Result<()> {
     let mut k = from;
     while k < to {
-        print_u32(table, k);
+        print_u32(rt, table, k)?;
         k += 1;
     }
+    Ok(())
 }
 
-fn print_u8s(table: &[u8], from: usize, to: usize) {
+fn print_u8s(rt: &impl Print, table: &[u8], from: usize, to: usize) -> io::Result<()> {
     let mut k = from;
     while k < to {
-        print_u8(table, k);
+        print_u8(rt, table, k)?;
         k += 1;
     }
+    Ok(())
 }
 
 // ---- A stored town file, loaded into tables that are long enough
 
-pub(crate) fn print_answer(answer: Loaded) {
+pub(crate) fn print_answer(rt: &impl Print, answer: Loaded) -> io::Result<()> {
     match answer {
         Loaded::Counts {
             junctions,
             intervals,
             arcs,
-        } => {
-            io::write_all(STDOUT_FILENO, b": junctions");
-            print_number(junctions as u64);
-            io::write_all(STDOUT_FILENO, b" intervals");
-            print_number(intervals as u64);
-            io::write_all(STDOUT_FILENO, b" arcs");
-            print_number(arcs as u64);
-        }
+        } => { println!(rt; ": junctions {junctions} intervals {intervals} arcs {arcs}") }
         Loaded::Refused { refusal, line } => {
-            io::write_all(STDOUT_FILENO, b": refused");
-            print_number(refusal.number() as u64);
-            io::write_all(STDOUT_FILENO, b" line");
-            print_number(line as u64);
+            println!(rt; ": refused {} line {line}", refusal.number())
         }
     }
-    io::write_all(STDOUT_FILENO, b"\n");
 }
 
-fn print_name(text: &[u8], junction: u32) {
-    io::write_all(STDOUT_FILENO, b" [");
-    io::write_all(STDOUT_FILENO, name(text, junction));
-    io::write_all(STDOUT_FILENO, b"]");
+fn print_name(rt: &impl Print, text: &[u8], junction: u32) -> io::Result<()> {
+    print!(rt; " [")?;
+    rt.write_all(name(text, junction))?;
+    print!(rt; "]")
 }
 
 // The first three junctions and the highest that there can be.
-fn print_names(text: &[u8]) {
-    io::write_all(STDOUT_FILENO, b"names");
-    print_name(text, 0);
-    print_name(text, 1);
-    print_name(text, 2);
-    print_name(text, 199);
-    io::write_all(STDOUT_FILENO, b"\n");
+fn print_names(rt: &impl Print, text: &[u8]) -> io::Result<()> {
+    print!(rt; "names")?;
+    print_name(rt, text, 0)?;
+    print_name(rt, text, 1)?;
+    print_name(rt, text, 2)?;
+    print_name(rt, text, 199)?;
+    println!(rt)
 }
 
 // How many speeds the arcs have together.
@@ -117,6 +112,7 @@ fn speed_count(arcs: u32, intervals: u32) -> usize {
 
 // One entry of each table.
 fn print_across(
+    rt: &impl Print,
     interval: usize,
     arc: usize,
     speed: usize,
@@ -126,23 +122,31 @@ fn print_across(
     lengths: &[u32],
     holds: &[u16],
     speeds: &[u8],
-) {
-    print_u32(fences, interval);
-    print_ends(arc, tails, heads, lengths, holds);
-    print_u8(speeds, speed);
-    io::write_all(STDOUT_FILENO, b"\n");
+) -> io::Result<()> {
+    print_u32(rt, fences, interval)?;
+    print_ends(rt, arc, tails, heads, lengths, holds)?;
+    print_u8(rt, speeds, speed)?;
+    println!(rt)
 }
 
 // An arc's tail, head, length and hold.
-fn print_ends(arc: usize, tails: &[u16], heads: &[u16], lengths: &[u32], holds: &[u16]) {
-    print_u16(tails, arc);
-    print_u16(heads, arc);
-    print_u32(lengths, arc);
-    print_u16(holds, arc);
+fn print_ends(
+    rt: &impl Print,
+    arc: usize,
+    tails: &[u16],
+    heads: &[u16],
+    lengths: &[u32],
+    holds: &[u16],
+) -> io::Result<()> {
+    print_u16(rt, tails, arc)?;
+    print_u16(rt, heads, arc)?;
+    print_u32(rt, lengths, arc)?;
+    print_u16(rt, holds, arc)
 }
 
 // The same, and its speeds, from one place up to another.
 pub(crate) fn print_arc(
+    rt: &impl Print,
     arc: usize,
     from: usize,
     to: usize,
@@ -151,15 +155,16 @@ pub(crate) fn print_arc(
     lengths: &[u32],
     holds: &[u16],
     speeds: &[u8],
-) {
-    io::write_all(STDOUT_FILENO, b"arc");
-    print_ends(arc, tails, heads, lengths, holds);
-    print_u8s(speeds, from, to);
-    io::write_all(STDOUT_FILENO, b"\n");
+) -> io::Result<()> {
+    print!(rt; "arc")?;
+    print_ends(rt, arc, tails, heads, lengths, holds)?;
+    print_u8s(rt, speeds, from, to)?;
+    println!(rt)
 }
 
 // The fences, the first two arcs, and of each table the entry behind those that were written.
 fn print_town(
+    rt: &impl Print,
     intervals: u32,
     arcs: u32,
     fences: &[u32],
@@ -168,17 +173,18 @@ fn print_town(
     lengths: &[u32],
     holds: &[u16],
     speeds: &[u8],
-) {
+) -> io::Result<()> {
     let width = intervals as usize;
     let count = arcs as usize;
-    io::write_all(STDOUT_FILENO, b"fences");
-    print_u32s(fences, 0, width);
-    io::write_all(STDOUT_FILENO, b"\n");
+    print!(rt; "fences")?;
+    print_u32s(rt, fences, 0, width)?;
+    println!(rt)?;
     if 0 < count {
-        print_arc(0, 0, width, tails, heads, lengths, holds, speeds);
+        print_arc(rt, 0, 0, width, tails, heads, lengths, holds, speeds)?;
     }
     if 1 < count {
         print_arc(
+            rt,
             1,
             width,
             width + width,
@@ -187,24 +193,24 @@ fn print_town(
             lengths,
             holds,
             speeds,
-        );
+        )?;
     }
     let behind = speed_count(arcs, intervals);
-    io::write_all(STDOUT_FILENO, b"then");
+    print!(rt; "then")?;
     print_across(
-        width, count, behind, fences, tails, heads, lengths, holds, speeds,
-    );
+        rt, width, count, behind, fences, tails, heads, lengths, holds, speeds,
+    )
 }
 
 // Where a text is refused, a changed table shows in its first entry.
-fn print_block(title: &[u8], text: &[u8]) {
+fn print_block(rt: &impl Print, title: &[u8], text: &[u8]) -> io::Result<()> {
     let mut fences = [9u32; 97];
     let mut tails = [9u16; 641];
     let mut heads = [9u16; 641];
     let mut lengths = [9u32; 641];
     let mut holds = [9u16; 641];
     let mut speeds = [9u8; 61_441];
-    io::write_all(STDOUT_FILENO, title);
+    rt.write_all(title)?;
     let answer = load(
         text,
         &mut fences,
@@ -214,7 +220,7 @@ fn print_block(title: &[u8], text: &[u8]) {
         &mut holds,
         &mut speeds,
     );
-    print_answer(answer);
+    print_answer(rt, answer)?;
     match answer {
         Loaded::Counts {
             junctions: _,
@@ -222,51 +228,46 @@ fn print_block(title: &[u8], text: &[u8]) {
             arcs,
         } => {
             print_town(
-                intervals, arcs, &fences, &tails, &heads, &lengths, &holds, &speeds,
-            );
+                rt, intervals, arcs, &fences, &tails, &heads, &lengths, &holds, &speeds,
+            )?;
         }
         Loaded::Refused {
             refusal: _,
             line: _,
         } => {
-            io::write_all(STDOUT_FILENO, b"first entries");
-            print_across(0, 0, 0, &fences, &tails, &heads, &lengths, &holds, &speeds);
+            print!(rt; "first entries")?;
+            print_across(
+                rt, 0, 0, 0, &fences, &tails, &heads, &lengths, &holds, &speeds,
+            )?;
         }
     }
-    print_names(text);
+    print_names(rt, text)
 }
 
-fn print_file(path: &[u8]) {
-    let file = os::open_read(path);
-    if file < 0 {
-        os::fail(path);
-        return;
-    }
-    let mut buffer = [0u8; ROOM];
-    let read = read_all(file, path, &mut buffer);
-    libc::close(file);
-    let Transfer::Bytes(length) = read else {
-        return;
+fn print_file(rt: &HostRuntime, path: &str) -> io::Result<()> {
+    let title = path.as_bytes();
+    let mut file = match File::open(rt, path) {
+        Ok(file) => file,
+        Err(error) => {
+            fail(&mut rt.stderr(), title, &error);
+            return Ok(());
+        }
     };
-    print_block(path, &buffer[..length]);
+    let mut buffer = [0u8; ROOM];
+    let Transfer::Bytes(length) = read_all(&mut file, &mut rt.stderr(), title, &mut buffer) else {
+        return Ok(());
+    };
+    print_block(rt, title, &buffer[..length])
 }
 
-fn print_argument(k: usize) {
-    let mut path = io::buffer();
-    let length = os::arg(k, &mut path);
-    print_file(&path[..length]);
-}
-
-fn print_arguments() {
-    let count = os::arg_count();
-    let mut k = 1;
-    while k < count {
-        print_argument(k);
-        k += 1;
+fn print_arguments(rt: &HostRuntime) -> io::Result<()> {
+    for path in env::args(rt)?.skip(1) {
+        print_file(rt, &path)?;
     }
+    Ok(())
 }
 
-fn main() {
-    print_arguments();
-    parts::print_all_parts();
+fn main(rt: HostRuntime) -> io::Result<()> {
+    print_arguments(&rt)?;
+    parts::print_all_parts(&rt)
 }

@@ -1,7 +1,7 @@
 // Parts of tables lent to Load, of which some are too short.
 ghost use Rattle.std.specs.Prelude.{◌≤◌, length};
 
-use crate::{print_answer, print_arc, print_number, print_u32s};
+use crate::{print_answer, print_arc, print_u32s};
 use loading::load::{Loaded, load};
 use std::io;
 
@@ -97,13 +97,7 @@ fn print_parts(
         &mut holds,
         &mut speeds,
     );
-    print!(rt; "room")?;
-    print_number(rt, f as u64)?;
-    print_number(rt, t as u64)?;
-    print_number(rt, h as u64)?;
-    print_number(rt, l as u64)?;
-    print_number(rt, o as u64)?;
-    print_number(rt, s as u64)?;
+    print!(rt; "room {f} {t} {h} {l} {o} {s}")?;
     print_answer(rt, answer)?;
     print_whole(rt, &fences, &tails, &heads, &lengths, &holds, &speeds)
 }

@@ -68,6 +68,7 @@ fn refuse(refusal: Refusal) -> Converted
     Converted::Refused { refusal, line: 0 }
 }
 
+#[tactic(auto, unfolding(model::specs::Rules::first_broken, conversion::specs::Conversion::convert_answer, conversion::specs::Conversion::output_after))]
 fn convert(wanted: bool, text: &[u8], output: &mut [u8]) -> Converted
     ensures answer { reading_of result ≡ convert_answer wanted text.now output.old }
     ensures output { output.new ≡ output_after wanted text.now output.old }

@@ -19,6 +19,7 @@ fn put_marked(letters: &[u8], line: &[u8], output: &mut [u8], at: usize) -> usiz
 }
 
 // `TN` becomes `TW`, and an AR line gets a space and 0 at its end.
+#[tactic(auto, using(crate::proofs::LineMark::mark_long))]
 fn put_new(mark: u16, line: &[u8], output: &mut [u8], at: usize) -> usize
     requires { mark ≡ first_two line.now }
     ensures { PutIfRoom (to_new_lem line.now) at output.old output.new result }
@@ -34,6 +35,7 @@ fn put_new(mark: u16, line: &[u8], output: &mut [u8], at: usize) -> usize
 }
 
 // `TW` becomes `TN`, and an AR line loses its hold of 0 with its space.
+#[tactic(auto, using(crate::proofs::LineMark::mark_long))]
 fn put_old(mark: u16, line: &[u8], output: &mut [u8], at: usize) -> usize
     requires { mark ≡ first_two line.now }
     ensures { PutIfRoom (to_old_lem line.now) at output.old output.new result }
@@ -48,6 +50,7 @@ fn put_old(mark: u16, line: &[u8], output: &mut [u8], at: usize) -> usize
     }
 }
 
+#[tactic(auto, unfolding(conversion::specs::Conversion::converted_line))]
 fn put_line(wanted: bool, mark: u16, line: &[u8], output: &mut [u8], at: usize) -> usize
     requires { mark ≡ first_two line.now }
     ensures { PutIfRoom (converted_line wanted line.now) at output.old output.new result }

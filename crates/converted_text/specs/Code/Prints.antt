@@ -1,5 +1,5 @@
 -- What stands in the output behind a converter's answer.
-use Rattle.std.specs.Prelude.{ℕ, ◌≡◌, true, false, List, length}
+use Rattle.std.specs.Prelude.{ℕ, ◌≡◌, true, false, List}
 use Rattle.townfile.specs.FirstFault.{Reading, refused_at, accepted}
 use Rattle.formatting.specs.Printed.{Printed}
 use Rattle.formatting.specs.Texts.{refusal_text}

@@ -5,22 +5,21 @@ run test prove bench soak: kit
 kit:
 	@command -v rt > /dev/null || { echo "make: the command rt is not there. It belongs to the Rattle kit; README.md says which one." >&2; exit 1; }
 
-# Proves and builds the programs, and asks them about the example towns. rt check uses all processors; building alone would use one.
+# Proves and builds the programs, and asks them about the example towns.
 run:
-	rt check arrivals sheet to_new to_old
 	programs/build arrivals
 	programs/build sheet
 	programs/build to_new
 	programs/build to_old
 	examples/run
 
-# The gate: prove everything from nothing, try the must-fail edits, run the programs and the tests.
+# The gate: prove everything, try the must-fail edits, run the programs and the tests.
 test:
 	bash .ci/run
 
 # The proofs alone, of what has changed.
 prove:
-	rt check
+	rt all check --jobs $$(nproc)
 
 # Measures the operations beside the Rust program's: the tables of docs/BENCHMARK.md.
 bench:

@@ -12,7 +12,7 @@ fn main() {
         let archive = folder.join(format!("lib{library}.a"));
         assert!(
             archive.exists(),
-            "{} is missing: build it with `rt staticlib {library}`, or set EXPORTS_DIR",
+            "{} is missing: build it with `programs/build {library}`, or set EXPORTS_DIR",
             archive.display()
         );
         println!("cargo:rerun-if-changed={}", archive.display());

@@ -14,8 +14,11 @@ use Rattle.model.specs.Ticks.{day}
 use Rattle.model.specs.Rules.{AllKept, Outcome, refused, replied, Rule, first_broken, every}
 use Rattle.model.proofs.Parties.{kept_for}
 use Rattle.checking.specs.ClosedNetwork.{closed_network_rules, closed_network_check_lem}
+use Rattle.checking.specs.NetworkCheck.{outcome_of}
+use Rattle.checking.specs.declared.network.NetworkCheck.{NetworkCheck}
+use Rattle.checking.specs.declared.network.NetworkCheck.TheVariants.{Accepted}
 use Rattle.checking.specs.Question.{Taken}
-use Rattle.checking.proofs.QuestionRules.{kept_closed, closed_kept, accepted_for}
+use Rattle.checking.proofs.QuestionRules.{network_keeps, kept_closed, closed_kept, accepted_for}
 use Rattle.model.proofs.Rules.{kept_replies, replies_kept, refused_at_law, refused_before, kept_before, kept_append, append_kept, both_true, true_both, every_at, at_every}
 use Rattle.sheeting.specs.Figures.{figures_of}
 use Rattle.sheeting.specs.Rows.{rows_of}
@@ -60,6 +63,12 @@ module _ (N : Network) (asker source : ℕ) (departures : List ℕ) where
   pub network_refuses : {number : ℕ} → refused number ≡ closed_network_check_lem N asker → refused number ≡ shift_check_lem N asker source departures
   unfolding closed_network_check_lem shift_check_lem
   network_refuses {number} e = sym (refused_before (closed_network_rules N asker) (shift_rules N source departures) tt tt number (sym e))
+
+  -- Of a network that is accepted with its closures, the rules on the source and the list decide.
+  pub past_closed : {answer : NetworkCheck} → outcome_of answer ≡ closed_network_check_lem N asker → answer ≡ Accepted →
+      shift_check_lem N asker source departures ≡ first_broken (shift_rules N source departures) tt
+  unfolding shift_check_lem
+  past_closed is told = kept_before (closed_network_rules N asker) (shift_rules N source departures) tt (network_keeps N asker is told)
 
   kept_taken : AllKept check_rules → KnownAsker asker × ShiftTaken N source departures
   kept_taken kept =

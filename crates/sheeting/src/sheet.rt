@@ -1,7 +1,7 @@
 // Sheet: the labels and the figures of a list of departures.
 ghost use Rattle.std.specs.Prelude.{◌≡◌};
 ghost use Rattle.model.specs.Lent.{lent_network, lent_closures};
-ghost use Rattle.checking.specs.NetworkCheck.{outcome_of as networkOutcomeOf};
+ghost use Rattle.checking.specs.NetworkCheck.{outcome_of as network_outcome_of};
 ghost use Rattle.model.specs.Rules.{every};
 ghost use Rattle.sheeting.specs.Sheet.{outcome_of, in_day, shift_check_lem, sheet_answer, sheet_labels_after, sheet_figures_after};
 
@@ -53,7 +53,7 @@ fn shift_check(
     source: u32,
     departures: &[u32],
 ) -> NetworkCheck
-    ensures { networkOutcomeOf result ≡ shift_check_lem (lent_network junctions fences tails heads lengths holds speeds (lent_closures closures)) asker source departures.now }
+    ensures { network_outcome_of result ≡ shift_check_lem (lent_network junctions fences tails heads lengths holds speeds (lent_closures closures)) asker source departures.now }
 {
     if let NetworkCheck::Refused(refusal) = closed_network_check(
         junctions, fences, tails, heads, lengths, holds, speeds, closures, asker,

@@ -1,10 +1,6 @@
 -- `figures::write_figures`: at each turn the table starts with the figures of the columns before (`FiguresWritten`).
-use Prim.Native.Nat.{◌-◌, ◌*◌}
-use mathlib.Core.Path.{ap, ◌∙◌}
-use lib.Seq.{sets}
-use native.Mathlib.Omega.{arith}
-use Rattle.sheeting.specs.Code.Columns.{in_turn}
-use Rattle.sheeting.proofs.Columns.{FiguresWritten, figures_start, figures_go_on, figures_end}
+use Prim.Native.Nat.{◌-◌}
+use Rattle.sheeting.proofs.Columns.{FiguresWritten}
 use Rattle.sheeting.proofs.figures.write_figures.Given as goal
 
 abbrev pub invariant-loop-j : goal.invariant-loop-j

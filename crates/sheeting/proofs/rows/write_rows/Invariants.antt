@@ -1,17 +1,11 @@
 -- `rows::write_rows`: at each turn the buffer starts with the rows of the departures before (`RowsWritten`), and the predecessors have
 -- room for every network's junctions.
-use Prim.Native.Nat.{◌+◌, ◌-◌, ◌*◌, ◌≤◌, ◌<◌}
-use mathlib.Core.Path.{◌≡◌, refl, sym, ◌∙◌}
-use native.Mathlib.Omega.{arith}
-use borrow.Author.Rules.{rules}
+use Prim.Native.Nat.{◌-◌}
+use mathlib.Core.Path.{◌≡◌}
 use lib.ListN.{length}
-use lib.Seq.{length-take-le, length_front}
-use Rattle.model.specs.Network.{Network, network}
+use Rattle.model.specs.Network.{network}
 use Rattle.model.specs.Closures.{closures_of}
-use Rattle.model.specs.Lent.{network_in, closures_in}
-use Rattle.sheeting.specs.Code.Writing.{RowsAsked}
-use Rattle.sheeting.proofs.RowByRow.{RowsWritten, rows_start, row_inside, part_long, rows_go_on, rows_end}
-use Rattle.sheeting.proofs.SheetRules.{departure_taken}
+use Rattle.sheeting.proofs.RowByRow.{RowsWritten}
 use Rattle.sheeting.proofs.rows.write_rows.Given as goal
 
 abbrev pub invariant-loop-k : goal.invariant-loop-k

@@ -1,12 +1,8 @@
 -- `sheet::departures_keep` is the test of the whole list: the invariant says so of the departures that are left.
-use borrow.Author.Rules.{rules}
 use Prim.Native.Nat.{◌-◌}
-use mathlib.Core.Path.{◌≡◌, refl}
+use mathlib.Core.Path.{◌≡◌}
 use lib.ListN.{length, drop}
-use borrow.Author.Tests.{lt-ltb, le-ltb}
-use Rattle.model.specs.Ticks.{day}
 use Rattle.model.specs.Rules.{every}
-use Rattle.checking.proofs.Scan.{every_fails, every_goes_on, every_ends}
 use Rattle.sheeting.specs.Sheet.{in_day}
 use Rattle.sheeting.proofs.sheet.departures_keep.Given as goal
 

@@ -9,7 +9,7 @@ use lib.Dec.{ltb}
 use lib.ListN.{length, length-map}
 use borrow.Author.Tests.{lt-ltb}
 use Rattle.model.specs.Closures.{max_closures, closures_of, closure_of}
-use Rattle.model.specs.Network.{Network, closed_by, network_for, arcs}
+use Rattle.model.specs.Network.{Network, closed_by, network_for}
 use Rattle.model.specs.NetworkRules.{network_rules}
 use Rattle.model.specs.Rules.{refused, Rule, ◌if◌, first_broken}
 use Rattle.model.specs.declared.closure.Closure.{Closure}

@@ -1,0 +1,11 @@
+-- `tables_check::tables_check_read`: the rows that are lent stand for the list that was read, and give its answer.
+use Rattle.std.proofs.Common.{[], refl}
+use Rattle.model.specs.Lent.{network_in}
+use Rattle.operations.proofs.Overlong.{answer_alike, tables_too_long}
+use Rattle.operations.proofs.tables_check.tables_check_read.Goals as goal
+
+pub returns : goal.returns
+returns c =
+    let args = c.args in
+    let N = network_in args.junctions args.fences args.tails args.heads args.lengths args.holds args.speeds [] in
+    answer_alike (tables_too_long N args.asker args.source args.departure.number args.labels.now args.predecessors.now) (rw (← c.row_count-count.ensures.value) at (c.put_rows.ensures.rows refl)) c.tables_check.ensures

@@ -9,7 +9,7 @@ use lib.ListN.{length, drop}
 use Rattle.model.proofs.Rules.{true_both}
 use Rattle.townfile.specs.FirstFault.{refused_at}
 use Rattle.question_line.specs.Line.{numbers_in, of_form, rest_start}
-use Rattle.question_line.specs.Question.{mark_qU, source_in, town_text}
+use Rattle.question_line.specs.Question.{mark_qu, source_in, town_text}
 use Rattle.question_line.proofs.Answers.{asked_too_long, asked_not, asked_so, rest_inside}
 use Rattle.town_labels.specs.Labelling.{town_labelling}
 use Rattle.arrivals_text.specs.Answer.{answer_to}
@@ -45,7 +45,7 @@ question_malformed input h e = go (asks input) refl e
 -- The town file begins within the input.
 town_inside : (input : List ℕ) → asks input ≡ true → rest_start input ≤ length input
 unfolding asks
-town_inside input a = rest_inside mark_qU input (true_both (of_form mark_qU input) (eqb (length (numbers_in input)) 2) a).0
+town_inside input a = rest_inside mark_qu input (true_both (of_form mark_qu input) (eqb (length (numbers_in input)) 2) a).0
 
 pub record QuestionAsked (input : List ℕ) (source departure town : ℕ) : Type 0 where
   pub inside : town ≤ length input

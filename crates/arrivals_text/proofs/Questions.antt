@@ -12,7 +12,7 @@ use Rattle.model.specs.Rules.{written}
 use Rattle.model.proofs.Rules.{true_both, both_true}
 use Rattle.townfile.specs.Grammar.{Bytes}
 use Rattle.question_line.specs.Line.{numbers_in, of_form, rest_of, LineAndRest}
-use Rattle.question_line.specs.Question.{mark_qU, source_in, town_text}
+use Rattle.question_line.specs.Question.{mark_qu, source_in, town_text}
 use Rattle.question_line.proofs.Asked.{NumbersAsked}
 use Rattle.question_line.proofs.Forms.{of_form_when_written}
 use Rattle.arrivals_text.specs.Question.{asks, departure_in, QuestionAndText, AsksWhenOfForm}
@@ -32,11 +32,11 @@ module _ (input : List ℕ) where
   unfolding question_in_lem
   not_asked e = rw e
 
-  pub other_form : of_form mark_qU input ≡ false → Malformed ≡ question_in_lem input
+  pub other_form : of_form mark_qu input ≡ false → Malformed ≡ question_in_lem input
   unfolding asks
   other_form e = not_asked (rw e)
 
-  module _ {count next : ℕ} (line : NumbersAsked mark_qU input count next) where
+  module _ {count next : ℕ} (line : NumbersAsked mark_qu input count next) where
     pub other_count : (count ≡ 2 → ⊥) → Malformed ≡ question_in_lem input
     unfolding asks
     other_count e = not_asked (rw (line.form, ne_eqb (length (numbers_in input)) 2 (λ two. e (sym line.counted ∙ two))))
@@ -55,13 +55,13 @@ module _ (input : List ℕ) (bytes : Bytes input) (source departure : ℕ) (text
   abbrev numbers : List ℕ
   numbers = source ∷ departure ∷ []
 
-  line_written : ((of_form mark_qU input ≡ true) × (numbers_in input ≡ numbers) × (rest_of input ≡ text)) ↔ LineAndRest 81 85 input numbers text
+  line_written : ((of_form mark_qu input ≡ true) × (numbers_in input ≡ numbers) × (rest_of input ≡ text)) ↔ LineAndRest 81 85 input numbers text
   line_written = of_form_when_written 81 85 (omega arith, omega arith) (omega arith, omega arith) input bytes numbers text
 
   asks_form : (asks input ≡ true) × (source_in input ≡ source) × (departure_in input ≡ departure) × (town_text input ≡ text) → QuestionAndText input source departure text
   unfolding asks
   asks_form asked =
-      let both = true_both (of_form mark_qU input) (eqb (length (numbers_in input)) 2) asked.0 in
+      let both = true_both (of_form mark_qu input) (eqb (length (numbers_in input)) 2) asked.0 in
       let two = two_of (numbers_in input) (eqb-true (length (numbers_in input)) 2 both.1) in
       let line = line_written.0 (both.0, (rw (asked.1, asked.2) at two), asked.3) in
       record { bytes = line.bytes; two_fields = line.fields; in_all = line.in_all }

@@ -3,11 +3,11 @@ use Rattle.std.specs.Prelude.{ℕ, ◌≡◌, Bool, true, ◌&&◌, List, [], �
 use Rattle.townfile.specs.Bytes.{line_feed}
 use Rattle.townfile.specs.Grammar.{Bytes, Fields}
 use Rattle.question_line.specs.Line.{numbers_in, of_form}
-use Rattle.question_line.specs.Question.{mark_qU, source_in, town_text}
+use Rattle.question_line.specs.Question.{mark_qu, source_in, town_text}
 
 -- The first line is of the form, with two numbers.
 unfoldable pub asks : List ℕ → Bool
-asks input = of_form mark_qU input && eqb (length (numbers_in input)) 2
+asks input = of_form mark_qu input && eqb (length (numbers_in input)) 2
 
 abbrev pub departure_in : List ℕ → ℕ
 departure_in input = get_or (numbers_in input) 1 0

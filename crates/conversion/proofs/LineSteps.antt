@@ -12,7 +12,7 @@ use Rattle.townfile.specs.Bytes.{space}
 use Rattle.townfile.specs.Numbers.{decimal_from}
 use Rattle.townfile.specs.Grammar.{Number, Fields, no_fields, field, Arc, Line, TN, FN, JN, AR, CM}
 use Rattle.townfile.specs.Grammar.{Reads, town_line, held_town_line, fences_line, junction_line, arc_line, held_arc_line, bare_comment, comment_line}
-use Rattle.townfile.specs.Lines.{mark_tN, mark_tW, mark_aR, first_two}
+use Rattle.townfile.specs.Lines.{mark_tn, mark_tw, mark_ar, first_two}
 use Rattle.conversion.specs.Conversion.{no_hold, converted_line, LineChanges, town_letters, arc_hold, unchanged}
 use Rattle.conversion.proofs.Digits.{with_zeros, few_digits}
 
@@ -76,10 +76,10 @@ pub record Step (wanted : Bool) (line : List ℕ) (says : Line) : Type 0 where
   pub changes : cond wanted (LineChanges line (converted_line wanted line)) (LineChanges (converted_line wanted line) line)
   pub reads : Reads wanted (converted_line wanted line) says
 
-other_line : (a b : ℕ) (bytes : List ℕ) → eqb (a * 256 + b) mark_tN ≡ false → eqb (a * 256 + b) mark_tW ≡ false → eqb (a * 256 + b) mark_aR ≡ false →
+other_line : (a b : ℕ) (bytes : List ℕ) → eqb (a * 256 + b) mark_tn ≡ false → eqb (a * 256 + b) mark_tw ≡ false → eqb (a * 256 + b) mark_ar ≡ false →
     LineChanges (a ∷ b ∷ bytes) (a ∷ b ∷ bytes)
 unfolding first_two
-other_line a b bytes town held arc = unchanged (eqb-false (a * 256 + b) mark_tN town) (eqb-false (a * 256 + b) mark_tW held) (eqb-false (a * 256 + b) mark_aR arc)
+other_line a b bytes town held arc = unchanged (eqb-false (a * 256 + b) mark_tn town) (eqb-false (a * 256 + b) mark_tw held) (eqb-false (a * 256 + b) mark_ar arc)
 
 to_new : {line : List ℕ} {says : Line} → Reads false line says → Step true line says
 unfolding converted_line first_two
@@ -120,10 +120,10 @@ pub new_of_old : {old new : List ℕ} → LineChanges old new → converted_line
 unfolding converted_line first_two
 new_of_old (town_letters bytes) = refl
 new_of_old (arc_hold bytes) = refl
-new_of_old (unchanged {line} no-town no-held has_no_arc) = rw (ne_eqb (first_two line) mark_tN no-town, ne_eqb (first_two line) mark_aR has_no_arc)
+new_of_old (unchanged {line} no-town no-held has_no_arc) = rw (ne_eqb (first_two line) mark_tn no-town, ne_eqb (first_two line) mark_ar has_no_arc)
 
 pub old_of_new : {old new : List ℕ} → LineChanges old new → converted_line false new ≡ old
 unfolding converted_line first_two
 old_of_new (town_letters bytes) = refl
 old_of_new (arc_hold bytes) = hold_dropped bytes
-old_of_new (unchanged {line} no-town no-held has_no_arc) = rw (ne_eqb (first_two line) mark_tW no-held, ne_eqb (first_two line) mark_aR has_no_arc)
+old_of_new (unchanged {line} no-town no-held has_no_arc) = rw (ne_eqb (first_two line) mark_tw no-held, ne_eqb (first_two line) mark_ar has_no_arc)

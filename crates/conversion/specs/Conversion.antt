@@ -5,7 +5,7 @@ use Rattle.std.specs.Prelude.{ℕ, ◌+◌, ◌-◌, ◌*◌, ◌≤◌, ◌≡�
 use Rattle.model.specs.Rules.{Outcome, refused, replied, Rule, ◌if◌, first_broken, every, written}
 use Rattle.townfile.specs.Bytes.{line_feed, space, pieces}
 use Rattle.townfile.specs.Grammar.{Bytes, Town, Each, Unbroken, joined, Describes}
-use Rattle.townfile.specs.Lines.{mark_tN, mark_tW, mark_aR, first_two}
+use Rattle.townfile.specs.Lines.{mark_tn, mark_tw, mark_ar, first_two}
 use Rattle.townfile.specs.FirstFault.{Reading, refused_at, accepted, first_fault}
 use Rattle.townfile.specs.Tables.{town_of}
 use Rattle.townfile.specs.Load.{Tables, load_answer}
@@ -28,11 +28,11 @@ no_hold = space ∷ 48 ∷ []
 
 -- `TN` becomes `TW`, and an `AR` line gets a space and 0 at its end.
 abbrev pub to_new_lem : List ℕ → List ℕ
-to_new_lem line = cond (eqb (first_two line) mark_tN) (84 ∷ 87 ∷ drop 2 line) (cond (eqb (first_two line) mark_aR) (line ++ no_hold) line)
+to_new_lem line = cond (eqb (first_two line) mark_tn) (84 ∷ 87 ∷ drop 2 line) (cond (eqb (first_two line) mark_ar) (line ++ no_hold) line)
 
 -- `TW` becomes `TN`, and an `AR` line loses its hold with its space. Where this is done the hold is 0: two bytes.
 abbrev pub to_old_lem : List ℕ → List ℕ
-to_old_lem line = cond (eqb (first_two line) mark_tW) (84 ∷ 78 ∷ drop 2 line) (cond (eqb (first_two line) mark_aR) (take (length line - 2) line) line)
+to_old_lem line = cond (eqb (first_two line) mark_tw) (84 ∷ 78 ∷ drop 2 line) (cond (eqb (first_two line) mark_ar) (take (length line - 2) line) line)
 
 unfoldable pub converted_line : (wanted : Bool) → List ℕ → List ℕ
 converted_line wanted line = cond wanted (to_new_lem line) (to_old_lem line)
@@ -90,7 +90,7 @@ output_after wanted text output = after_converting (convert_answer wanted text o
 pub data LineChanges : (old new : List ℕ) → Type 0 where
   town_letters : (bytes : List ℕ) → LineChanges (84 ∷ 78 ∷ bytes) (84 ∷ 87 ∷ bytes)
   arc_hold : (bytes : List ℕ) → LineChanges (65 ∷ 82 ∷ bytes) (65 ∷ 82 ∷ (bytes ++ no_hold))
-  unchanged : {line : List ℕ} → (first_two line ≡ mark_tN → ⊥) → (first_two line ≡ mark_tW → ⊥) → (first_two line ≡ mark_aR → ⊥) → LineChanges line line
+  unchanged : {line : List ℕ} → (first_two line ≡ mark_tn → ⊥) → (first_two line ≡ mark_tw → ⊥) → (first_two line ≡ mark_ar → ⊥) → LineChanges line line
 
 pub data LinesChange : (old new : List (List ℕ)) → Type 0 where
   no_more : LinesChange [] []

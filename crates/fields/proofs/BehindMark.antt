@@ -10,7 +10,7 @@ use lib.ListN.{length, get_or, drop}
 use borrow.Author.Tests.{ne_eqb}
 use Rattle.model.proofs.Tests.{eqb_cases, ltb_cases}
 use Rattle.townfile.specs.Bytes.{line_feed, space, up_to, pieces}
-use Rattle.townfile.specs.Lines.{mark_tN, mark_tW, first_two, mark_of, known, mark_alone, fields_of}
+use Rattle.townfile.specs.Lines.{mark_tn, mark_tw, first_two, mark_of, known, mark_alone, fields_of}
 use Rattle.townfile.specs.LineFaults.{Known, town_mark, fences_mark, junction_mark, arc_mark, comment_mark}
 use Rattle.townfile.proofs.Marks.{known_mark}
 use Rattle.townfile.proofs.FieldForm.{pieces_later}
@@ -25,8 +25,8 @@ no_space_in a b h (junction_mark e) = ((λ s. omega arith), (λ s. omega arith))
 no_space_in a b h (arc_mark e) = ((λ s. omega arith), (λ s. omega arith))
 no_space_in a b h (comment_mark e) = ((λ s. omega arith), (λ s. omega arith))
 
-no_spaces : (a b : ℕ) → b < 256 → Known (cond (eqb (a * 256 + b) mark_tW) mark_tN (a * 256 + b)) → (a ≡ space → ⊥) × (b ≡ space → ⊥)
-no_spaces a b h known = elim (eqb_cases (a * 256 + b) mark_tW) [
+no_spaces : (a b : ℕ) → b < 256 → Known (cond (eqb (a * 256 + b) mark_tw) mark_tn (a * 256 + b)) → (a ≡ space → ⊥) × (b ≡ space → ⊥)
+no_spaces a b h known = elim (eqb_cases (a * 256 + b) mark_tw) [
   | inl held ↦ ((λ s. omega (arith, held.1)), (λ s. omega (arith, held.1)))
   | inr other ↦ no_space_in a b h (rw other.0 at known)
 ]

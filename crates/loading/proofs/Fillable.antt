@@ -17,7 +17,7 @@ use Rattle.model.proofs.Rules.{true_both, kept_replies, replies_kept}
 use Rattle.model.proofs.Tests.{ltb_cases}
 use Rattle.townfile.specs.Bytes.{line_feed, pieces}
 use Rattle.townfile.specs.Grammar.{Bytes, Each, joined}
-use Rattle.townfile.specs.Lines.{mark_tN, mark_fN, mark_aR, first_two, mark_of, mark_alone, numbers_of, line_rules, line_read, line_answer}
+use Rattle.townfile.specs.Lines.{mark_tn, mark_fn, mark_ar, first_two, mark_of, mark_alone, numbers_of, line_rules, line_read, line_answer}
 use Rattle.townfile.specs.Lines.{known, in_turn, arc_fields, numbers_keep, form_keeps, ends_differ, values_keep}
 use Rattle.townfile.specs.FirstFault.{Reading, refused_at, accepted, start, at_end, onward, lines_from, first_fault}
 use Rattle.townfile.specs.Tables.{marked}
@@ -65,17 +65,17 @@ line_keeps p q line e =
 
 record LinesFill (p : Progress) (intervals : ℕ) (held : Bool) (lines : List (List ℕ)) : Type 0 where
   settled : Settled p intervals held
-  fences_fill : Each (FencesLine intervals) (marked mark_fN lines)
-  arcs_fill : Each (ArcLine intervals held) (marked mark_aR lines)
+  fences_fill : Each (FencesLine intervals) (marked mark_fn lines)
+  arcs_fill : Each (ArcLine intervals held) (marked mark_ar lines)
 
 module _ (p : Progress) (line : List ℕ) (keeps : LineKeeps p line) where
-  fences_line : mark_of line ≡ mark_fN → FencesLine p.intervals line
+  fences_line : mark_of line ≡ mark_fn → FencesLine p.intervals line
   unfolding form_keeps
   fences_line is =
       let form = true_both (mark_alone line) (numbers_keep p.intervals line) (rw is at keeps.form) in
       record { alone = form.0; form = form.1 }
 
-  arc_line : Limited p → 1 ≤ p.turn → mark_of line ≡ mark_aR → ArcLine p.intervals p.held line
+  arc_line : Limited p → 1 ≤ p.turn → mark_of line ≡ mark_ar → ArcLine p.intervals p.held line
   unfolding form_keeps values_keep
   arc_line limited turn is =
       let form = true_both (mark_alone line) (numbers_keep (arc_fields p) line) (rw is at keeps.form) in
@@ -100,7 +100,7 @@ module _ (p : Progress) (line : List ℕ) (keeps : LineKeeps p line) where
         hold_fits = omega (arith, leb-true hold max_hold held.1);
       }
 
-  town_limited : mark_of line ≡ mark_tN → get_or (numbers_of line) 0 0 ≤ max_junctions
+  town_limited : mark_of line ≡ mark_tn → get_or (numbers_of line) 0 0 ≤ max_junctions
   unfolding values_keep
   town_limited is =
       let junctions = get_or (numbers_of line) 0 0 in

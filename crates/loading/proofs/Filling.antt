@@ -13,7 +13,7 @@ use Rattle.model.specs.Rules.{every, written}
 use Rattle.model.proofs.Rules.{true_both, both_true}
 use Rattle.townfile.specs.Numbers.{decimal, number_keeps}
 use Rattle.townfile.specs.Grammar.{network_of, Each}
-use Rattle.townfile.specs.Lines.{mark_fN, mark_aR, mark_of, mark_alone, fields_of, numbers_of, numbers_keep}
+use Rattle.townfile.specs.Lines.{mark_fn, mark_ar, mark_of, mark_alone, fields_of, numbers_of, numbers_keep}
 use Rattle.townfile.specs.Tables.{arc_of, town_of}
 use Rattle.townfile.specs.Load.{Tables, tables, holding}
 use Rattle.fields.specs.Fields.{line_from, numbers_from}
@@ -181,11 +181,11 @@ module _ {intervals : ℕ} {held : Bool} {allFences allArcs : List (List ℕ)} {
 -- The tables, with lines of fences and of arcs left of all that the text has.
 abbrev FilledBut : ℕ → Bool → List ℕ → Tables → List (List ℕ) → List (List ℕ) → ℕ → ℕ → Tables → Type 0
 FilledBut intervals held text before fences arcs fence arc lent =
-    TablesFilled intervals held (marked_from mark_fN text 0) (marked_from mark_aR text 0) before fences arcs fence arc lent
+    TablesFilled intervals held (marked_from mark_fn text 0) (marked_from mark_ar text 0) before fences arcs fence arc lent
 
 -- Those left stand from a place of the text on.
 abbrev pub FilledFrom : ℕ → Bool → List ℕ → Tables → ℕ → ℕ → ℕ → Tables → Type 0
-FilledFrom intervals held text before at fence arc lent = FilledBut intervals held text before (marked_from mark_fN text at) (marked_from mark_aR text at) fence arc lent
+FilledFrom intervals held text before at fence arc lent = FilledBut intervals held text before (marked_from mark_fn text at) (marked_from mark_ar text at) fence arc lent
 
 pub fillable_starts : {intervals : ℕ} {held : Bool} {text fences tails heads lengths holds speeds : List ℕ} → Fillable intervals held text fences tails heads lengths holds speeds →
     FilledFrom intervals held text (tables fences tails heads lengths holds speeds) 0 0 0 (tables fences tails heads lengths holds speeds)
@@ -206,11 +206,11 @@ fillable_starts {intervals = intervals} fillable =
 module _ {intervals : ℕ} {held : Bool} (text : List ℕ) {before : Tables} (at : ℕ) {fence arc : ℕ} {lent : Tables}
     (filled : FilledFrom intervals held text before at fence arc lent) where
   -- Where the lines left begin with one of fences.
-  module _ (behind : BehindMark text at) (is : mark_of (line_from text at) ≡ mark_fN) where
+  module _ (behind : BehindMark text at) (is : mark_of (line_from text at) ≡ mark_fn) where
     fences_first : (next : ℕ) → next ≡ at + length (line_from text at) + 1 →
-        FilledBut intervals held text before (line_from text at ∷ marked_from mark_fN text next) (marked_from mark_aR text next) fence arc lent
+        FilledBut intervals held text before (line_from text at ∷ marked_from mark_fn text next) (marked_from mark_ar text next) fence arc lent
     fences_first next e =
-        rw (this_marked mark_fN (λ z. omega arith) text at next e is, this_unmarked mark_aR (λ z. omega arith) text at next e (λ a. omega arith)) at filled
+        rw (this_marked mark_fn (λ z. omega arith) text at next e is, this_unmarked mark_ar (λ z. omega arith) text at next e (λ a. omega arith)) at filled
 
     pub fences_asked : EndsInside text at → NumbersFill intervals text (at + 2) × (fence + intervals ≤ length lent.fences)
     fences_asked ends =
@@ -223,11 +223,11 @@ module _ {intervals : ℕ} {held : Bool} (text : List ℕ) {before : Tables} (at
         fences_stored (fences_first next (omega (arith, ap length behind.line_is))) after (rw (numbers_behind behind) at s)
 
   -- Where they begin with an arc.
-  module _ (behind : BehindMark text at) (is : mark_of (line_from text at) ≡ mark_aR) where
+  module _ (behind : BehindMark text at) (is : mark_of (line_from text at) ≡ mark_ar) where
     arc_first : (next : ℕ) → next ≡ at + length (line_from text at) + 1 →
-        FilledBut intervals held text before (marked_from mark_fN text next) (line_from text at ∷ marked_from mark_aR text next) fence arc lent
+        FilledBut intervals held text before (marked_from mark_fn text next) (line_from text at ∷ marked_from mark_ar text next) fence arc lent
     arc_first next e =
-        rw (this_marked mark_aR (λ z. omega arith) text at next e is, this_unmarked mark_fN (λ z. omega arith) text at next e (λ a. omega arith)) at filled
+        rw (this_marked mark_ar (λ z. omega arith) text at next e is, this_unmarked mark_fn (λ z. omega arith) text at next e (λ a. omega arith)) at filled
 
     pub arc_asked : EndsInside text at → ArcFills intervals held text (at + 2) ×
         ((arc < length lent.tails)
@@ -252,18 +252,18 @@ module _ {intervals : ℕ} {held : Bool} (text : List ℕ) {before : Tables} (at
         (rw numbers at t) (rw numbers at h) (rw numbers at l) (rw numbers at d) (rw numbers at s)
 
   -- Where they begin with another.
-  pub other_next : (mark_of (line_from text at) ≡ mark_fN → ⊥) → (mark_of (line_from text at) ≡ mark_aR → ⊥) → (next : ℕ) → next ≡ at + length (line_from text at) + 1 →
+  pub other_next : (mark_of (line_from text at) ≡ mark_fn → ⊥) → (mark_of (line_from text at) ≡ mark_ar → ⊥) → (next : ℕ) → next ≡ at + length (line_from text at) + 1 →
       FilledFrom intervals held text before next fence arc lent
   other_next no-fences has_no_arc next e =
-      rw (this_unmarked mark_fN (λ z. omega arith) text at next e no-fences, this_unmarked mark_aR (λ z. omega arith) text at next e has_no_arc) at filled
+      rw (this_unmarked mark_fn (λ z. omega arith) text at next e no-fences, this_unmarked mark_ar (λ z. omega arith) text at next e has_no_arc) at filled
 
   -- Where none is left.
   pub filled_whole : length text ≤ at → Fillable intervals held text before.fences before.tails before.heads before.lengths before.holds before.speeds →
       lent ≡ holding (network_of (town_of text)) before
   unfolding town_of flatten
   filled_whole past fillable =
-      let no-fences = none_left mark_fN (λ z. omega arith) text at past in
-      let no-arcs = none_left mark_aR (λ z. omega arith) text at past in
+      let no-fences = none_left mark_fn (λ z. omega arith) text at past in
+      let no-arcs = none_left mark_ar (λ z. omega arith) text at past in
       let own = fillable.intervals_are in
       same_tables lent (holding (network_of (town_of text)) before)
       (all_filled filled.fences_filled fillable.fences_long (rw no-fences))

@@ -14,7 +14,7 @@ use Rattle.model.proofs.Rules.{true_both, replies_kept}
 use Rattle.model.proofs.Tests.{ltb_cases}
 use Rattle.townfile.specs.Bytes.{line_feed, space, up_to, pieces}
 use Rattle.townfile.specs.Numbers.{decimal, number_keeps}
-use Rattle.townfile.specs.Lines.{mark_jN, first_two, mark_of, mark_alone, number_field, name_field, name_keeps, form_keeps, line_rules, line_read, line_answer}
+use Rattle.townfile.specs.Lines.{mark_jn, first_two, mark_of, mark_alone, number_field, name_field, name_keeps, form_keeps, line_rules, line_read, line_answer}
 use Rattle.townfile.specs.Grammar.{Each}
 use Rattle.townfile.specs.FirstFault.{refused_at, accepted, start, onward, lines_from, first_fault}
 use Rattle.townfile.specs.Name.{part, names_it, place_among, name_place_lem}
@@ -38,7 +38,7 @@ form_names : (p : Progress) (line : List ℕ) → form_keeps p line ≡ true →
 unfolding form_keeps
 form_names p line e = record { alone = λ is. (parts is).0; number = λ is. (parts is).1.0; name = λ is. (parts is).1.1 }
   where
-    parts : mark_of line ≡ mark_jN → (mark_alone line ≡ true) × ((number_keeps (number_field line) ≡ true) × (name_keeps (name_field line) ≡ true))
+    parts : mark_of line ≡ mark_jn → (mark_alone line ≡ true) × ((number_keeps (number_field line) ≡ true) × (name_keeps (name_field line) ≡ true))
     parts is =
         let both = true_both (mark_alone line) (number_keeps (number_field line) && name_keeps (name_field line)) (rw is at e) in
         (both.0, true_both (number_keeps (number_field line)) (name_keeps (name_field line)) both.1)
@@ -70,7 +70,7 @@ accepted_names text p e = go (ltb 65536 (length text)) e
 
 -- ---- A line that names a junction
 
-module _ (text : List ℕ) (at : ℕ) (named : LineNames (line_from text at)) (is : mark_of (line_from text at) ≡ mark_jN) where
+module _ (text : List ℕ) (at : ℕ) (named : LineNames (line_from text at)) (is : mark_of (line_from text at) ≡ mark_jn) where
   -- The name begins inside the line.
   pub name_begins : length (number_field (line_from text at)) + 4 < length (line_from text at)
   name_begins = omega (arith, (keeps_name (name_field (line_from text at)) (named.name is)).some_byte, length-drop (length (number_field (line_from text at)) + 4) (line_from text at))
@@ -105,15 +105,15 @@ module _ (text : List ℕ) (at : ℕ) (named : LineNames (line_from text at)) (i
 
     pub other_junction : (junction : ℕ) → (value ≡ junction → ⊥) → Other ≡ name_start_lem text at junction
     unfolding name_start_lem
-    other_junction junction other = rw (eq-eqb (mark_of (line_from text at)) mark_jN is, value_is, ne_eqb value junction other)
+    other_junction junction other = rw (eq-eqb (mark_of (line_from text at)) mark_jn is, value_is, ne_eqb value junction other)
 
     pub this_junction : (junction : ℕ) → value ≡ junction → At (next + 1) ≡ name_start_lem text at junction
     unfolding name_start_lem
-    this_junction junction same = rw (eq-eqb (mark_of (line_from text at)) mark_jN is, value_is, eq-eqb value junction same) (ap At (omega (arith, next_is)))
+    this_junction junction same = rw (eq-eqb (mark_of (line_from text at)) mark_jn is, value_is, eq-eqb value junction same) (ap At (omega (arith, next_is)))
 
-pub other_mark : (text : List ℕ) (at junction : ℕ) → (mark_of (line_from text at) ≡ mark_jN → ⊥) → Other ≡ name_start_lem text at junction
+pub other_mark : (text : List ℕ) (at junction : ℕ) → (mark_of (line_from text at) ≡ mark_jn → ⊥) → Other ≡ name_start_lem text at junction
 unfolding name_start_lem
-other_mark text at junction other = rw (ne_eqb (mark_of (line_from text at)) mark_jN other)
+other_mark text at junction other = rw (ne_eqb (mark_of (line_from text at)) mark_jn other)
 
 -- ---- What an answer tells
 
@@ -175,8 +175,8 @@ module _ {text : List ℕ} {junction at : ℕ} (left : NamesLeft text junction a
       begins : length (number_field (line_from text at)) + 4 < length (line_from text at)
       begins =
           let line : List ℕ = line_from text at in
-          let has-mark = (true_both (eqb (mark_of line) mark_jN) (eqb (decimal (number_field line)) junction) (start_at text at junction e).0).0 in
-          name_begins text at line_named (eqb-true (mark_of line) mark_jN has-mark)
+          let has-mark = (true_both (eqb (mark_of line) mark_jn) (eqb (decimal (number_field line)) junction) (start_at text at junction e).0).0 in
+          name_begins text at line_named (eqb-true (mark_of line) mark_jn has-mark)
 
       pub starts_inside : from ≤ end
       starts_inside = omega (arith, (start_at text at junction e).1, begins)

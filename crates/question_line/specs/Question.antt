@@ -3,8 +3,8 @@ use Rattle.std.specs.Prelude.{ℕ, ◌*◌, ◌+◌, List, get_or}
 use Rattle.question_line.specs.Line.{numbers_in, rest_of}
 
 -- The mark as the number of its two bytes.
-abbrev pub mark_qU : ℕ
-mark_qU = 81 * 256 + 85
+abbrev pub mark_qu : ℕ
+mark_qu = 81 * 256 + 85
 
 abbrev pub source_in : List ℕ → ℕ
 source_in input = get_or (numbers_in input) 0 0

@@ -11,7 +11,7 @@ use borrow.Author.Tests.{ne_eqb}
 use Rattle.model.specs.Rules.{Outcome, refused, replied, first_broken, every, fences_keep_lem}
 use Rattle.townfile.specs.Bytes.{space, printable, up_to}
 use Rattle.townfile.specs.Numbers.{decimal, number_keeps}
-use Rattle.townfile.specs.Lines.{mark_tN, mark_fN, mark_jN, mark_aR, mark_cM, mark_of, mark_alone, numbers_of, numbers_keep, number_field, name_field, name_keeps, begins_held, arc_fields}
+use Rattle.townfile.specs.Lines.{mark_tn, mark_fn, mark_jn, mark_ar, mark_cm, mark_of, mark_alone, numbers_of, numbers_keep, number_field, name_field, name_keeps, begins_held, arc_fields}
 use Rattle.townfile.specs.Lines.{form_keeps, values_keep, town_keeps_lem, junction_keeps_lem, arc_keeps_lem, after_town_lem, after_fences_lem, after_junction, after_arc_lem, line_read}
 use Rattle.townfile.specs.declared.progress.Progress.{Progress}
 use Rattle.fields.specs.Fields.{line_from, word_from, field_at, fields_from, numbers_from}
@@ -169,31 +169,31 @@ module _ (p : Progress) (text : List ℕ) (at : ℕ) where
         rw (behind.fields_are, behind.alone_is, end_is)
         (numbers_asked turn ended (every number_keeps fields) (eqb (length fields) count) (test numbers) (next numbers) end)
 
-  pub town_line_is : (held : Bool) → BehindMark text at → mark_of line ≡ mark_tN → begins_held line ≡ held → town_step p held text (at + 2) ≡ step_of_line p text at
+  pub town_line_is : (held : Bool) → BehindMark text at → mark_of line ≡ mark_tn → begins_held line ≡ held → town_step p held text (at + 2) ≡ step_of_line p text at
   unfolding town_step step_of_line first_broken form_keeps values_keep line_read
   town_line_is held behind mark begins = rw (mark, begins) (numbers_line behind (eqb p.turn 0) 2 town_keeps_lem (after_town_lem p held))
 
-  pub fences_line_is : BehindMark text at → mark_of line ≡ mark_fN → fences_step p text (at + 2) ≡ step_of_line p text at
+  pub fences_line_is : BehindMark text at → mark_of line ≡ mark_fn → fences_step p text (at + 2) ≡ step_of_line p text at
   unfolding fences_step step_of_line first_broken form_keeps values_keep line_read
   fences_line_is behind mark = rw mark (numbers_line behind (eqb p.turn 1) p.intervals fences_keep_lem (λ numbers. after_fences_lem p))
 
-  pub arc_line_is : BehindMark text at → mark_of line ≡ mark_aR → arc_step p text (at + 2) ≡ step_of_line p text at
+  pub arc_line_is : BehindMark text at → mark_of line ≡ mark_ar → arc_step p text (at + 2) ≡ step_of_line p text at
   unfolding arc_step step_of_line first_broken form_keeps values_keep line_read
   arc_line_is behind mark = rw mark (numbers_line behind (leb 2 p.turn) (arc_fields p) (arc_keeps_lem p) (λ numbers. after_arc_lem p))
 
-  pub comment_line_is : BehindMark text at → mark_of line ≡ mark_cM → comment_step p text (at + 2) ≡ step_of_line p text at
+  pub comment_line_is : BehindMark text at → mark_of line ≡ mark_cm → comment_step p text (at + 2) ≡ step_of_line p text at
   unfolding comment_step step_of_line first_broken form_keeps values_keep line_read
   comment_line_is behind mark =
       rw (mark, behind.alone_is, ap (drop 2) behind.line_is, end_is behind)
       (comment_asked p (eqb (length (word_from text (at + 2))) 0) (every printable (line_from text (at + 2))) (at + 2 + length (line_from text (at + 2))))
 
-  pub junction_line_is : BehindMark text at → mark_of line ≡ mark_jN → junction_step p text (at + 2) ≡ step_of_line p text at
+  pub junction_line_is : BehindMark text at → mark_of line ≡ mark_jn → junction_step p text (at + 2) ≡ step_of_line p text at
   unfolding junction_step step_of_line first_broken form_keeps values_keep line_read
   junction_line_is behind mark = rw mark (junction_asked p text at behind (eqb p.turn 2))
 
-  pub no_line_is : (mark_of line ≡ mark_tN → ⊥) → (mark_of line ≡ mark_fN → ⊥) → (mark_of line ≡ mark_jN → ⊥) → (mark_of line ≡ mark_aR → ⊥) →
-      (mark_of line ≡ mark_cM → ⊥) → refused 23 ≡ step_of_line p text at
+  pub no_line_is : (mark_of line ≡ mark_tn → ⊥) → (mark_of line ≡ mark_fn → ⊥) → (mark_of line ≡ mark_jn → ⊥) → (mark_of line ≡ mark_ar → ⊥) →
+      (mark_of line ≡ mark_cm → ⊥) → refused 23 ≡ step_of_line p text at
   unfolding step_of_line first_broken
   no_line_is t f j a c =
       let mark = mark_of line in
-      rw (ne_eqb mark mark_tN t, ne_eqb mark mark_fN f, ne_eqb mark mark_jN j, ne_eqb mark mark_aR a, ne_eqb mark mark_cM c)
+      rw (ne_eqb mark mark_tn t, ne_eqb mark mark_fn f, ne_eqb mark mark_jn j, ne_eqb mark mark_ar a, ne_eqb mark mark_cm c)

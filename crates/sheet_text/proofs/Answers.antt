@@ -7,7 +7,7 @@ use native.Mathlib.Omega.{arith}
 use lib.ListN.{length, get_or, take, drop, replicate}
 use Rattle.townfile.specs.FirstFault.{refused_at}
 use Rattle.question_line.specs.Line.{numbers_in, of_form, numbers_after}
-use Rattle.question_line.specs.Question.{mark_qU, source_in, town_text}
+use Rattle.question_line.specs.Question.{mark_qu, source_in, town_text}
 use Rattle.question_line.proofs.Answers.{asked_too_long, asked_not, asked_so, rest_inside}
 use Rattle.question_line.proofs.Asked.{NumbersAsked}
 use Rattle.sheet_text.specs.Answer.{town_sheet_lem, sheet_for}
@@ -33,18 +33,18 @@ module _ (input : List ℕ) where
 
     -- ---- By what the code finds
 
-    pub sheet_other_form : of_form mark_qU input ≡ false → sheet_for input ≡ refused_at 25 0
+    pub sheet_other_form : of_form mark_qu input ≡ false → sheet_for input ≡ refused_at 25 0
     sheet_other_form e = sheet_not_asked (other_form input e)
 
-  module _ {count next : ℕ} (line : NumbersAsked mark_qU input count next) where
+  module _ {count next : ℕ} (line : NumbersAsked mark_qu input count next) where
     pub sheet_no_source : length input ≤ 65536 → count ≡ 0 → sheet_for input ≡ refused_at 25 0
     sheet_no_source short none = sheet_not_asked short (no_source input (line.counted ∙ none))
 
     pub next_inside : next ≤ length input
-    next_inside = omega (arith, rest_inside mark_qU input line.form, line.behind)
+    next_inside = omega (arith, rest_inside mark_qu input line.form, line.behind)
 
     -- the numbers that the table then holds
-    module _ (some : 0 < count) {table : List ℕ} (copied : table ≡ numbers_after mark_qU input (replicate 98 0)) where
+    module _ (some : 0 < count) {table : List ℕ} (copied : table ≡ numbers_after mark_qu input (replicate 98 0)) where
       some_number : 0 < length (numbers_in input)
       some_number = omega (arith, line.counted)
 

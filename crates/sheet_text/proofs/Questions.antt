@@ -13,7 +13,7 @@ use Rattle.model.specs.Rules.{written}
 use Rattle.model.proofs.Rules.{true_both, both_true}
 use Rattle.townfile.specs.Grammar.{Bytes}
 use Rattle.question_line.specs.Line.{numbers_in, of_form, rest_of}
-use Rattle.question_line.specs.Question.{mark_qU, source_in, town_text}
+use Rattle.question_line.specs.Question.{mark_qu, source_in, town_text}
 use Rattle.question_line.proofs.Forms.{of_form_when_written}
 use Rattle.sheet_text.specs.Question.{asks_shift, departures_in, ShiftAndText, AsksShiftWhenOfForm}
 
@@ -35,15 +35,15 @@ kept_departures (source ∷ departures) some =
 -- ---- Whether the line asks
 
 module _ (input : List ℕ) where
-  pub other_form : of_form mark_qU input ≡ false → asks_shift input ≡ false
+  pub other_form : of_form mark_qu input ≡ false → asks_shift input ≡ false
   unfolding asks_shift
   other_form e = rw e
 
   pub no_source : length (numbers_in input) ≡ 0 → asks_shift input ≡ false
   unfolding asks_shift
-  no_source none = rw (le-ltb 0 (length (numbers_in input)) (omega (arith, none))) (and-false (of_form mark_qU input))
+  no_source none = rw (le-ltb 0 (length (numbers_in input)) (omega (arith, none))) (and-false (of_form mark_qu input))
 
-  pub asks_source : of_form mark_qU input ≡ true → 0 < length (numbers_in input) → asks_shift input ≡ true
+  pub asks_source : of_form mark_qu input ≡ true → 0 < length (numbers_in input) → asks_shift input ≡ true
   unfolding asks_shift
   asks_source form some = both_true form (lt-ltb 0 (length (numbers_in input)) some)
 
@@ -57,13 +57,13 @@ module _ (input : List ℕ) (bytes : Bytes input) (source : ℕ) (departures tex
   abbrev Asks : Type 0
   Asks = (asks_shift input ≡ true) × (source_in input ≡ source) × (departures_in input ≡ departures) × (town_text input ≡ text)
 
-  line_written : ((of_form mark_qU input ≡ true) × (numbers_in input ≡ source ∷ departures) × (rest_of input ≡ text)) ↔ ShiftAndText input source departures text
+  line_written : ((of_form mark_qu input ≡ true) × (numbers_in input ≡ source ∷ departures) × (rest_of input ≡ text)) ↔ ShiftAndText input source departures text
   line_written = of_form_when_written 81 85 (omega arith, omega arith) (omega arith, omega arith) input bytes (source ∷ departures) text
 
   asks_form : Asks → ShiftAndText input source departures text
   unfolding asks_shift
   asks_form asked =
-      let both = true_both (of_form mark_qU input) (ltb 0 (length (numbers_in input))) asked.0 in
+      let both = true_both (of_form mark_qu input) (ltb 0 (length (numbers_in input))) asked.0 in
       let numbers = first_and_rest (numbers_in input) (ltb-true 0 (length (numbers_in input)) both.1) in
       line_written.0 (both.0, (rw (asked.1, asked.2) at numbers), asked.3)
 

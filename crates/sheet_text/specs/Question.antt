@@ -3,11 +3,11 @@
 use Rattle.std.specs.Prelude.{ℕ, ◌≡◌, Bool, true, ◌&&◌, List, ◌∷◌, ◌↔◌, ltb, length, drop}
 use Rattle.townfile.specs.Grammar.{Bytes}
 use Rattle.question_line.specs.Line.{numbers_in, of_form, LineAndRest}
-use Rattle.question_line.specs.Question.{mark_qU, source_in, town_text}
+use Rattle.question_line.specs.Question.{mark_qu, source_in, town_text}
 
 -- The first line is of the form, with a source.
 unfoldable pub asks_shift : List ℕ → Bool
-asks_shift input = of_form mark_qU input && ltb 0 (length (numbers_in input))
+asks_shift input = of_form mark_qu input && ltb 0 (length (numbers_in input))
 
 abbrev pub departures_in : List ℕ → List ℕ
 departures_in input = drop 1 (numbers_in input)

@@ -13,7 +13,7 @@ use Rattle.model.specs.Rules.{Outcome}
 use Rattle.model.proofs.Tests.{ltb_cases, eqb_cases}
 use Rattle.townfile.specs.Bytes.{line_feed, pieces}
 use Rattle.townfile.specs.Grammar.{Bytes, Each, Unbroken, joined}
-use Rattle.townfile.specs.Lines.{mark_tN, mark_fN, first_two, mark_of, names_due, line_read}
+use Rattle.townfile.specs.Lines.{mark_tn, mark_fn, first_two, mark_of, names_due, line_read}
 use Rattle.townfile.specs.FirstFault.{Reading, refused_at, accepted, start, at_end, onward, lines_from, first_fault}
 use Rattle.townfile.specs.Tables.{marked}
 use Rattle.townfile.specs.Load.{counts_of, is_too_short, into_tables, load_answer}
@@ -120,8 +120,8 @@ from_start : (lines : List (List ℕ)) (next : List ℕ) (rest : List (List ℕ)
     Ordered lines × (lines_from start 1 (lines ++ (next ∷ rest)) ≡ lines_from (progress_after lines) (suc (length lines)) (next ∷ rest))
 from_start lines next rest all = rw start_is at (lines_good [] lines next rest nothing_ordered all)
 
-due_early : (lines : List (List ℕ)) → Ordered lines → (Stands mark_tN lines → Stands mark_fN lines → ⊥) → due_after lines < names_due
-due_early lines o missing = elim (ltb_cases 0 (count mark_fN lines)) [
+due_early : (lines : List (List ℕ)) → Ordered lines → (Stands mark_tn lines → Stands mark_fn lines → ⊥) → due_after lines < names_due
+due_early lines o missing = elim (ltb_cases 0 (count mark_fn lines)) [
   | inl some ↦ absurd (missing (omega (arith, o, some.1)) some.1)
   | inr none ↦ omega (arith, o, due_is lines o, none.1)
 ]

@@ -9,7 +9,7 @@ use native.Mathlib.Omega.{arith}
 use lib.ListN.{length}
 use borrow.Author.Tests.{eqb-true, leb-true, le-leb, eq-eqb}
 use Rattle.model.proofs.Tests.{ltb_cases}
-use Rattle.townfile.specs.Lines.{mark_tN, mark_fN, mark_aR, known, town_due, fences_due, names_due, in_turn}
+use Rattle.townfile.specs.Lines.{mark_tn, mark_fn, mark_ar, known, town_due, fences_due, names_due, in_turn}
 use Rattle.townfile.specs.LineFaults.{Known, town_mark, fences_mark, junction_mark, arc_mark, comment_mark}
 use Rattle.townfile.specs.Tables.{marked}
 use Rattle.townfile.proofs.LineFaults.{in_turn_known}
@@ -22,17 +22,17 @@ count mark lines = length (marked mark lines)
 
 -- An `FN` stands behind a `TN`, and an `AR` behind an `FN`.
 pub record Ordered (lines : List (List ℕ)) : Type 0 where
-  pub fences_behind : min 1 (count mark_fN lines) ≤ min 1 (count mark_tN lines)
-  pub arcs_behind : min 1 (count mark_aR lines) ≤ min 1 (count mark_fN lines)
+  pub fences_behind : min 1 (count mark_fn lines) ≤ min 1 (count mark_tn lines)
+  pub arcs_behind : min 1 (count mark_ar lines) ≤ min 1 (count mark_fn lines)
 
 -- Each of the three marks that stands is a turn further.
-pub due_is : (lines : List (List ℕ)) → Ordered lines → due_after lines ≡ min 1 (count mark_tN lines) + min 1 (count mark_fN lines) + min 1 (count mark_aR lines)
+pub due_is : (lines : List (List ℕ)) → Ordered lines → due_after lines ≡ min 1 (count mark_tn lines) + min 1 (count mark_fn lines) + min 1 (count mark_ar lines)
 unfolding due_after
-due_is lines o = elim (ltb_cases 0 (count mark_aR lines)) [
+due_is lines o = elim (ltb_cases 0 (count mark_ar lines)) [
   | inl some_arc ↦ rw some_arc.0 (omega arith)
-  | inr has_no_arc ↦ elim (ltb_cases 0 (count mark_fN lines)) [
+  | inr has_no_arc ↦ elim (ltb_cases 0 (count mark_fn lines)) [
     | inl some-fences ↦ rw (has_no_arc.0, some-fences.0) (omega arith)
-    | inr no-fences ↦ elim (ltb_cases 0 (count mark_tN lines)) [
+    | inr no-fences ↦ elim (ltb_cases 0 (count mark_tn lines)) [
       | inl some-town ↦ rw (has_no_arc.0, no-fences.0, some-town.0) (omega arith)
       | inr no-town ↦ rw (has_no_arc.0, no-fences.0, no-town.0) (omega arith)
     ]

@@ -5,7 +5,7 @@
 use Rattle.std.specs.Prelude.{ℕ, suc, ◌≤◌, ◌<◌, ◌≡◌, Bool, cond, List, [], ◌∷◌, ◌++◌, map, ◌↔◌, ltb, length, get_or}
 use Rattle.townfile.specs.Bytes.{line_feed}
 use Rattle.townfile.specs.Grammar.{Bytes, Line, Reads, Unbroken, joined}
-use Rattle.townfile.specs.Lines.{mark_tN, mark_fN, mark_jN, mark_aR, mark_cM, begins_held, mark_of, town_due, fences_due, names_due, arcs_due}
+use Rattle.townfile.specs.Lines.{mark_tn, mark_fn, mark_jn, mark_ar, mark_cm, begins_held, mark_of, town_due, fences_due, names_due, arcs_due}
 use Rattle.townfile.specs.LineFaults.{Known, CountsMatch, WithinLimits}
 use Rattle.townfile.specs.FirstFault.{refused_at}
 use Rattle.townfile.specs.Tables.{marked, town_in, names_in, arcs_in}
@@ -26,15 +26,15 @@ last_or other (n ∷ numbers) = last_or n numbers
 -- The mark that is due, by the marks that stand.
 unfoldable pub due_after : List (List ℕ) → ℕ
 due_after lines =
-    cond (ltb 0 (length (marked mark_aR lines))) arcs_due
-    (cond (ltb 0 (length (marked mark_fN lines))) names_due
-    (cond (ltb 0 (length (marked mark_tN lines))) fences_due town_due))
+    cond (ltb 0 (length (marked mark_ar lines))) arcs_due
+    (cond (ltb 0 (length (marked mark_fn lines))) names_due
+    (cond (ltb 0 (length (marked mark_tn lines))) fences_due town_due))
 
 -- The form and the counts of the `TN`, one more than the number of the last `JN`, and how many `AR` there are. `TW` stands for `TN`.
 unfoldable pub progress_after : List (List ℕ) → Progress
 progress_after lines = record {
   turn = due_after lines;
-  held = begins_held (get_or (marked mark_tN lines) 0 []);
+  held = begins_held (get_or (marked mark_tn lines) 0 []);
   junctions = get_or (town_in lines) 0 0;
   intervals = get_or (town_in lines) 1 0;
   unnamed = last_or 0 (map (λ named. suc named.number) (names_in lines));
@@ -45,11 +45,11 @@ progress_after lines = record {
 
 -- 24: a mark in its turn.
 pub data InTurn (before : List (List ℕ)) (mark : ℕ) : Type 0 where
-  first_town : mark ≡ mark_tN → (Stands mark_tN before → ⊥) → InTurn before mark
-  first_fences : mark ≡ mark_fN → Stands mark_tN before → (Stands mark_fN before → ⊥) → InTurn before mark
-  junction_before_arcs : mark ≡ mark_jN → Stands mark_fN before → (Stands mark_aR before → ⊥) → InTurn before mark
-  arc_after_fences : mark ≡ mark_aR → Stands mark_fN before → InTurn before mark
-  any_comment : mark ≡ mark_cM → InTurn before mark
+  first_town : mark ≡ mark_tn → (Stands mark_tn before → ⊥) → InTurn before mark
+  first_fences : mark ≡ mark_fn → Stands mark_tn before → (Stands mark_fn before → ⊥) → InTurn before mark
+  junction_before_arcs : mark ≡ mark_jn → Stands mark_fn before → (Stands mark_ar before → ⊥) → InTurn before mark
+  arc_after_fences : mark ≡ mark_ar → Stands mark_fn before → InTurn before mark
+  any_comment : mark ≡ mark_cm → InTurn before mark
 
 -- 25: it reads as some line in one of the forms, with the right number of fields.
 abbrev pub Formed : List (List ℕ) → List ℕ → Type 0
@@ -90,7 +90,7 @@ pub data Faulty (text : List ℕ) : (number line : ℕ) → Type 0 where
   in_line : (lines : List (List ℕ)) (line rest : List ℕ) {number : ℕ} → length text ≤ 65536 → GoodAfter [] lines →
       text ≡ joined lines ++ (line ++ (line_feed ∷ rest)) → Unbroken line → Breaks lines line number → Faulty text number (suc (length lines))
   line_missing : (lines : List (List ℕ)) → length text ≤ 65536 → GoodAfter [] lines →
-      text ≡ joined lines → (Stands mark_tN lines → Stands mark_fN lines → ⊥) → Faulty text 27 (suc (length lines))
+      text ≡ joined lines → (Stands mark_tn lines → Stands mark_fn lines → ⊥) → Faulty text 27 (suc (length lines))
 
 -- ---- What is proved of it
 

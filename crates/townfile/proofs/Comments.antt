@@ -8,7 +8,7 @@ use lib.ListN.{length, length-append}
 use Rattle.townfile.specs.Bytes.{line_feed, pieces}
 use Rattle.townfile.specs.Grammar.{Town, Each, Line, TN, FN, JN, AR, CM, Reads, ReadsAll, no_lines, reads_line, joined, without_comments, Describes, Unbroken}
 use Rattle.townfile.specs.Grammar.{Commented, nothing_added, kept_line, added_comment}
-use Rattle.townfile.specs.Lines.{mark_cM}
+use Rattle.townfile.specs.Lines.{mark_cm}
 use Rattle.townfile.specs.Tables.{CommentsChangeNothing}
 use Rattle.townfile.proofs.Joined.{joined_pieces}
 use Rattle.townfile.proofs.Described.{all_unbroken}
@@ -55,7 +55,7 @@ both_unbroken nothing_added = (tt, tt)
 both_unbroken (kept_line unbroken commented) = let later = both_unbroken commented in ((unbroken, later.0), (unbroken, later.1))
 both_unbroken (added_comment reads short commented) = let later = both_unbroken commented in (later.0, (reads_unbroken reads, later.1))
 
-comment_says : (says : Line) → mark_of_says says ≡ mark_cM → says ≡ CM
+comment_says : (says : Line) → mark_of_says says ≡ mark_cm → says ≡ CM
 comment_says (TN junctions intervals) e = absurd (omega arith)
 comment_says (FN fences) e = absurd (omega arith)
 comment_says (JN named) e = absurd (omega arith)

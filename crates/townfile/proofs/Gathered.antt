@@ -5,7 +5,7 @@ use mathlib.Core.Bool.{Bool}
 use mathlib.Core.List.{List, [], ◌∷◌, ◌++◌, map, flatten, append-nil}
 use lib.ListN.{length, get_or}
 use Rattle.townfile.specs.Grammar.{Named, Arc, Town, Each, Line, TN, FN, JN, AR, CM, ReadsAll, no_lines, reads_line, without_comments, lines_in_order}
-use Rattle.townfile.specs.Lines.{mark_aR, first_two, mark_of, numbers_of}
+use Rattle.townfile.specs.Lines.{mark_ar, first_two, mark_of, numbers_of}
 use Rattle.townfile.specs.Tables.{marked, town_in, fences_in, names_in, named_of, arc_of}
 use Rattle.townfile.specs.declared.progress.Progress.{Progress}
 use Rattle.townfile.proofs.Says.{says_of}
@@ -112,7 +112,7 @@ town_per_interval say T e each = comments_per_interval (length T.fences) say (rw
 -- ---- Lines
 
 abbrev pub town_from : (intervals : ℕ) → List (List ℕ) → Town
-town_from intervals lines = record { junctions = get_or (town_in lines) 0 0; fences = fences_in lines; names = names_in lines; arcs = map (arc_of intervals) (marked mark_aR lines) }
+town_from intervals lines = record { junctions = get_or (town_in lines) 0 0; fences = fences_in lines; names = names_in lines; arcs = map (arc_of intervals) (marked mark_ar lines) }
 
 pub counts_given : {held : Bool} {lines : List (List ℕ)} {say : List Line} → ReadsAll held lines say → town_in (lines ++ ([] ∷ [])) ≡ counts_said say
 unfolding counts_said marked flatten mark_of first_two

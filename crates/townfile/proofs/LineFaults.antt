@@ -15,7 +15,7 @@ use Rattle.model.proofs.Rules.{true_both, both_true, kept_length, length_kept, e
 use Rattle.townfile.specs.Bytes.{printable}
 use Rattle.townfile.specs.Numbers.{number_keeps}
 use Rattle.townfile.specs.Grammar.{Arc, Line, TN, FN, JN, AR, CM}
-use Rattle.townfile.specs.Lines.{mark_tN, mark_fN, mark_jN, mark_aR, mark_cM, begins_held, mark_of, by_mark, known, town_due, fences_due, names_due, in_turn}
+use Rattle.townfile.specs.Lines.{mark_tn, mark_fn, mark_jn, mark_ar, mark_cm, begins_held, mark_of, by_mark, known, town_due, fences_due, names_due, in_turn}
 use Rattle.townfile.specs.Lines.{arc_fields, mark_alone, numbers_keep, number_field, name_field, name_keeps, form_keeps}
 use Rattle.townfile.specs.LineFaults.{TownWithin, ArcWithin, WithinLimits, FormKeptWhenReads, ValuesKeptWhenWithin}
 use Rattle.townfile.specs.declared.progress.Progress.{Progress}
@@ -27,7 +27,7 @@ use Rattle.townfile.proofs.Order.{said_keeps, arc_limits, values_said}
 
 -- What is asked by the mark, and of no other mark, asks that the mark is known.
 by_mark_known : (mark : ℕ) (town fences junction arc comment : Bool) → by_mark mark town fences junction arc comment false ≡ true → known mark ≡ true
-by_mark_known mark town fences junction arc comment = go (eqb mark mark_tN) (eqb mark mark_fN) (eqb mark mark_jN) (eqb mark mark_aR) (eqb mark mark_cM)
+by_mark_known mark town fences junction arc comment = go (eqb mark mark_tn) (eqb mark mark_fn) (eqb mark mark_jn) (eqb mark mark_ar) (eqb mark mark_cm)
   where
     go : (a b c d e : Bool) → cond a town (cond b fences (cond c junction (cond d arc (cond e comment false)))) ≡ true →
         cond a true (cond b true (cond c true (cond d true (cond e true false)))) ≡ true
@@ -49,11 +49,11 @@ form_known p line kept =
 
 -- The form that a line is of by itself, or by the lines before it.
 form_for : Progress → List ℕ → Bool
-form_for p line = cond (eqb (mark_of line) mark_tN) (begins_held line) p.held
+form_for p line = cond (eqb (mark_of line) mark_tn) (begins_held line) p.held
 
 form_for_law : (p : Progress) (line : List ℕ) → OfForm p (form_for p line) line
 unfolding form_for
-form_for_law p line = ((λ is. rw (eq-eqb (mark_of line) mark_tN is)), (λ is. rw (ne_eqb (mark_of line) mark_tN (λ e. omega (arith, is, e)))))
+form_for_law p line = ((λ is. rw (eq-eqb (mark_of line) mark_tn is)), (λ is. rw (ne_eqb (mark_of line) mark_tn (λ e. omega (arith, is, e)))))
 
 pub form_kept_when_reads : FormKeptWhenReads
 form_kept_when_reads p line bytes = (

@@ -16,7 +16,7 @@ use Rattle.townfile.specs.Bytes.{line_feed, space, printable, up_to, pieces}
 use Rattle.townfile.specs.Numbers.{decimal, number_keeps}
 use Rattle.townfile.specs.Grammar.{Bytes, Fields, Number, Name, Printable, Line, TN, JN, AR, CM}
 use Rattle.townfile.specs.Grammar.{Reads, town_line, held_town_line, fences_line, junction_line, arc_line, held_arc_line, bare_comment, comment_line}
-use Rattle.townfile.specs.Lines.{mark_tN, mark_aR, first_two, begins_held, mark_of, known, arc_fields, mark_alone}
+use Rattle.townfile.specs.Lines.{mark_tn, mark_ar, first_two, begins_held, mark_of, known, arc_fields, mark_alone}
 use Rattle.townfile.specs.Lines.{fields_of, numbers_of, numbers_keep, number_field, name_field, name_keeps, form_keeps}
 use Rattle.townfile.specs.LineFaults.{CountsMatch}
 use Rattle.townfile.specs.Tables.{named_of}
@@ -133,7 +133,7 @@ comment_reads (byte ∷ bytes) none all = rw (up_to_none space byte bytes none) 
 
 -- The form that a line is of: the beginning's own, an arc's that of the lines before, and any other line's either.
 abbrev pub OfForm : Progress → Bool → List ℕ → Type 0
-OfForm p held line = (mark_of line ≡ mark_tN → held ≡ begins_held line) × (mark_of line ≡ mark_aR → held ≡ p.held)
+OfForm p held line = (mark_of line ≡ mark_tn → held ≡ begins_held line) × (mark_of line ≡ mark_ar → held ≡ p.held)
 
 marked_reads : (p : Progress) (held : Bool) {line : List ℕ} → OfForm p held line → MarkedLine line → form_keeps p line ≡ true → Reads held line (says_of p.intervals line)
 unfolding form_keeps says_of mark_of first_two

@@ -10,7 +10,7 @@ use lib.ListN.{length, take, drop, drop_of_length-le, length-drop, length-append
 use lib.Seq.{drop-drop, drop-append-le, drop-append-add, take-append_seam}
 use Rattle.model.proofs.Tests.{eqb_cases, leb_cases}
 use Rattle.townfile.specs.Bytes.{line_feed, pieces}
-use Rattle.townfile.specs.Lines.{mark_jN, mark_of, number_field, name_field}
+use Rattle.townfile.specs.Lines.{mark_jn, mark_of, number_field, name_field}
 use Rattle.townfile.specs.FirstFault.{Reading, refused_at, accepted, first_fault}
 use Rattle.townfile.specs.Tables.{marked, names_in, town_of}
 use Rattle.townfile.specs.Name.{if_read, name_among, name_of, part, names_it, place_in, place_among, name_place_lem, StandsAt, NameStandsAtPlace}
@@ -23,7 +23,7 @@ use Rattle.townfile.proofs.Joined.{glued, glued_pieces}
 among_lines : (junction : ℕ) (line : List ℕ) (lines : List (List ℕ)) →
     name_among junction (names_in (line ∷ lines)) ≡ cond (names_it junction line) (name_field line) (name_among junction (names_in lines))
 unfolding marked name_among
-among_lines junction line lines = elim (eqb_cases (mark_of line) mark_jN) [
+among_lines junction line lines = elim (eqb_cases (mark_of line) mark_jn) [
   | inl here ↦ rw here.0
   | inr other ↦ rw other.0
 ]

@@ -13,7 +13,7 @@ use Rattle.model.specs.NetworkRules.{junctions_keep}
 use Rattle.model.specs.Rules.{Outcome, refused, replied, every, fences_keep_lem, length_keeps_lem, speed_keeps, hold_keeps}
 use Rattle.model.proofs.Rules.{true_both, kept_replies, replies_kept}
 use Rattle.townfile.specs.Grammar.{Bytes, Arc, Each, Line, TN, FN, JN, AR, CM, Reads, ReadsAll, no_lines, reads_line}
-use Rattle.townfile.specs.Lines.{mark_tN, mark_aR, begins_held, mark_of, by_mark, known, town_due, in_turn, numbers_of, form_keeps, junction_keeps_lem, ends_differ, values_keep, line_rules}
+use Rattle.townfile.specs.Lines.{mark_tn, mark_ar, begins_held, mark_of, by_mark, known, town_due, in_turn, numbers_of, form_keeps, junction_keeps_lem, ends_differ, values_keep, line_rules}
 use Rattle.townfile.specs.Lines.{after_town_lem, after_fences_lem, after_junction, after_arc_lem, line_read, line_answer}
 use Rattle.townfile.specs.LineFaults.{CountsMatch, town_mark, fences_mark, junction_mark, arc_mark, comment_mark}
 use Rattle.townfile.specs.FirstFault.{refused_at, accepted, at_end, onward, lines_from}
@@ -87,7 +87,7 @@ pub values_said : (p : Progress) (line : List ℕ) → said_keeps p (says_of p.i
 unfolding says_of values_keep
 values_said p line = on_mark (said_keeps p) (mark_of line) _ _ _ _ _ _
 
-after_said_law : (p : Progress) (held : Bool) (line : List ℕ) → known (mark_of line) ≡ true → (mark_of line ≡ mark_tN → held ≡ begins_held line) →
+after_said_law : (p : Progress) (held : Bool) (line : List ℕ) → known (mark_of line) ≡ true → (mark_of line ≡ mark_tn → held ≡ begins_held line) →
     after_said held p (says_of p.intervals line) ≡ line_read p line
 unfolding says_of line_read
 after_said_law p held line mark own = elim (known_mark (mark_of line) mark) [
@@ -192,10 +192,10 @@ line_said held p q line bytes e ends =
     let formed = not-false (form_keeps p line) kept.1.1.1.0 in
     let same : replied q ≡ replied (line_read p line) = sym e ∙ kept_replies (line_rules p line) (line_read p line) kept in
     let is : q ≡ line_read p line = cc in
-    let own : mark_of line ≡ mark_tN → held ≡ begins_held line = λ m.
+    let own : mark_of line ≡ mark_tn → held ≡ begins_held line = λ m.
     let town : q ≡ after_town_lem p (begins_held line) (numbers_of line) = rw m at is in
     rw town at (ends (rw town (omega arith))) in
-    let arc : mark_of line ≡ mark_aR → held ≡ p.held = λ m.
+    let arc : mark_of line ≡ mark_ar → held ≡ p.held = λ m.
     let counted : q ≡ after_arc_lem p = rw m at is in
     rw counted at (ends (rw counted (omega arith))) in
     record {
@@ -226,7 +226,7 @@ said_line held p {line} {says} short reads allowed =
     )
     ∙ ap replied (sym (after_said_law p held line marked (λ m. begins says reads (sym mark ∙ m)))) ∙ rw same
   where
-    begins : (says : Line) → Reads held line says → mark_of_says says ≡ mark_tN → held ≡ begins_held line
+    begins : (says : Line) → Reads held line says → mark_of_says says ≡ mark_tn → held ≡ begins_held line
     begins (TN junctions intervals) reads m = sym (reads_begins reads)
     begins (FN fences) reads m = absurd (omega arith)
     begins (JN named) reads m = absurd (omega arith)

@@ -5,16 +5,16 @@ use Rattle.std.specs.Prelude.{ℕ, ◌≤◌, ◌<◌, ◌≡◌, Bool, true, Li
 use Rattle.model.specs.Intervals.{FencesKept}
 use Rattle.model.specs.Limits.{max_junctions, max_intervals, max_arcs, max_length, max_hold, max_speed}
 use Rattle.townfile.specs.Grammar.{Bytes, Arc, Line, TN, FN, JN, AR, CM, Reads}
-use Rattle.townfile.specs.Lines.{mark_tN, mark_fN, mark_jN, mark_aR, mark_cM, form_keeps, values_keep}
+use Rattle.townfile.specs.Lines.{mark_tn, mark_fn, mark_jn, mark_ar, mark_cm, form_keeps, values_keep}
 use Rattle.townfile.specs.declared.progress.Progress.{Progress}
 
 -- The five marks, `TW` standing for `TN`.
 pub data Known (mark : ℕ) : Type 0 where
-  town_mark : mark ≡ mark_tN → Known mark
-  fences_mark : mark ≡ mark_fN → Known mark
-  junction_mark : mark ≡ mark_jN → Known mark
-  arc_mark : mark ≡ mark_aR → Known mark
-  comment_mark : mark ≡ mark_cM → Known mark
+  town_mark : mark ≡ mark_tn → Known mark
+  fences_mark : mark ≡ mark_fn → Known mark
+  junction_mark : mark ≡ mark_jn → Known mark
+  arc_mark : mark ≡ mark_ar → Known mark
+  comment_mark : mark ≡ mark_cm → Known mark
 
 -- The right number of fields, after the lines before: "the fences, as many as intervals", "one speed per interval", and a hold in the new form.
 abbrev pub CountsMatch : Progress → Bool → Line → Type 0

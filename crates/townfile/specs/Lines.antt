@@ -13,23 +13,23 @@ use Rattle.townfile.specs.declared.progress.Progress.{Progress}
 -- ---- The mark
 
 -- The marks, each as the number of its two bytes.
-abbrev pub mark_tN : ℕ
-mark_tN = 84 * 256 + 78
+abbrev pub mark_tn : ℕ
+mark_tn = 84 * 256 + 78
 
-abbrev pub mark_tW : ℕ
-mark_tW = 84 * 256 + 87
+abbrev pub mark_tw : ℕ
+mark_tw = 84 * 256 + 87
 
-abbrev pub mark_fN : ℕ
-mark_fN = 70 * 256 + 78
+abbrev pub mark_fn : ℕ
+mark_fn = 70 * 256 + 78
 
-abbrev pub mark_jN : ℕ
-mark_jN = 74 * 256 + 78
+abbrev pub mark_jn : ℕ
+mark_jn = 74 * 256 + 78
 
-abbrev pub mark_aR : ℕ
-mark_aR = 65 * 256 + 82
+abbrev pub mark_ar : ℕ
+mark_ar = 65 * 256 + 82
 
-abbrev pub mark_cM : ℕ
-mark_cM = 67 * 256 + 77
+abbrev pub mark_cm : ℕ
+mark_cm = 67 * 256 + 77
 
 -- The first two bytes of a line as one number, or 0 where there are not two.
 unfoldable pub first_two : List ℕ → ℕ
@@ -39,20 +39,20 @@ first_two (a ∷ b ∷ bytes) = a * 256 + b
 
 -- The line begins with `TW`: the file is of the new form.
 abbrev pub begins_held : List ℕ → Bool
-begins_held line = eqb (first_two line) mark_tW
+begins_held line = eqb (first_two line) mark_tw
 
 -- The mark of a line, "`TW` standing for `TN`".
 unfoldable pub mark_of : List ℕ → ℕ
-mark_of line = cond (begins_held line) mark_tN (first_two line)
+mark_of line = cond (begins_held line) mark_tn (first_two line)
 
 -- "The loader decides what to do by the mark": one case for each of `TN`, `FN`, `JN`, `AR`, `CM`, and one for any other.
 abbrev pub by_mark : {A : Type 0} → ℕ → A → A → A → A → A → A → A
 by_mark mark town fences junction arc comment other =
-    cond (eqb mark mark_tN) town
-    (cond (eqb mark mark_fN) fences
-    (cond (eqb mark mark_jN) junction
-    (cond (eqb mark mark_aR) arc
-    (cond (eqb mark mark_cM) comment other))))
+    cond (eqb mark mark_tn) town
+    (cond (eqb mark mark_fn) fences
+    (cond (eqb mark mark_jn) junction
+    (cond (eqb mark mark_ar) arc
+    (cond (eqb mark mark_cm) comment other))))
 
 abbrev pub known : ℕ → Bool
 known mark = by_mark mark true true true true true false

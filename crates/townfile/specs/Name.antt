@@ -3,7 +3,7 @@
 use Rattle.std.specs.Prelude.{ℕ, ◌+◌, ◌-◌, ◌≤◌, ◌<◌, ◌≡◌, Bool, cond, ◌&&◌, List, [], ◌∷◌, eqb, length, take, drop}
 use Rattle.townfile.specs.Bytes.{line_feed, pieces}
 use Rattle.townfile.specs.Numbers.{decimal}
-use Rattle.townfile.specs.Lines.{mark_jN, mark_of, number_field, name_field}
+use Rattle.townfile.specs.Lines.{mark_jn, mark_of, number_field, name_field}
 use Rattle.townfile.specs.Grammar.{Bytes, Named, Town, Describes, Each}
 use Rattle.townfile.specs.FirstFault.{Reading, refused_at, accepted, first_fault}
 use Rattle.townfile.specs.Tables.{town_of}
@@ -31,7 +31,7 @@ part start size = record { start = start; length = size }
 
 -- A line that names this junction.
 abbrev pub names_it : ℕ → List ℕ → Bool
-names_it junction line = eqb (mark_of line) mark_jN && eqb (decimal (number_field line)) junction
+names_it junction line = eqb (mark_of line) mark_jn && eqb (decimal (number_field line)) junction
 
 -- The name of a line that starts at a place of the text. It runs to the line's end.
 abbrev pub place_in : ℕ → List ℕ → Part

@@ -8,7 +8,7 @@ use Rattle.model.specs.Rules.{replied}
 use Rattle.model.specs.NetworkRules.{network_check_lem}
 use Rattle.townfile.specs.Bytes.{line_feed, pieces}
 use Rattle.townfile.specs.Numbers.{decimal}
-use Rattle.townfile.specs.Lines.{mark_tN, mark_fN, mark_jN, mark_aR, mark_of, numbers_of, number_field, name_field}
+use Rattle.townfile.specs.Lines.{mark_tn, mark_fn, mark_jn, mark_ar, mark_of, numbers_of, number_field, name_field}
 use Rattle.townfile.specs.Grammar.{Bytes, Named, Arc, Town, Describes, network_of, joined, Commented}
 use Rattle.townfile.specs.FirstFault.{accepted, first_fault}
 use Rattle.townfile.specs.declared.progress.Progress.{Progress}
@@ -33,16 +33,16 @@ arc_of intervals line = let numbers = numbers_of line in record {
 
 -- The numbers of the `TN` or `TW` line.
 abbrev pub town_in : List (List ℕ) → List ℕ
-town_in lines = flatten (map numbers_of (marked mark_tN lines))
+town_in lines = flatten (map numbers_of (marked mark_tn lines))
 
 abbrev pub fences_in : List (List ℕ) → List ℕ
-fences_in lines = flatten (map numbers_of (marked mark_fN lines))
+fences_in lines = flatten (map numbers_of (marked mark_fn lines))
 
 abbrev pub names_in : List (List ℕ) → List Named
-names_in lines = map named_of (marked mark_jN lines)
+names_in lines = map named_of (marked mark_jn lines)
 
 abbrev pub arcs_in : List (List ℕ) → List Arc
-arcs_in lines = map (arc_of (get_or (town_in lines) 1 0)) (marked mark_aR lines)
+arcs_in lines = map (arc_of (get_or (town_in lines) 1 0)) (marked mark_ar lines)
 
 unfoldable pub town_of : List ℕ → Town
 town_of text = let lines = pieces line_feed text in

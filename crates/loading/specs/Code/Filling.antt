@@ -3,7 +3,7 @@ use Rattle.std.specs.Prelude.{ℕ, ◌+◌, ◌≤◌, ◌<◌, ◌≡◌, Bool,
 use Rattle.model.specs.Rules.{every, speed_keeps}
 use Rattle.townfile.specs.Bytes.{line_feed, pieces}
 use Rattle.townfile.specs.Numbers.{decimal}
-use Rattle.townfile.specs.Lines.{mark_fN, mark_aR, mark_alone, numbers_of, numbers_keep}
+use Rattle.townfile.specs.Lines.{mark_fn, mark_ar, mark_alone, numbers_of, numbers_keep}
 use Rattle.townfile.specs.Grammar.{Each, network_of}
 use Rattle.townfile.specs.Tables.{marked, town_in, town_of}
 use Rattle.fields.specs.Fields.{line_from, word_from, numbers_from, filled_by}
@@ -60,8 +60,8 @@ pub record ArcLine (intervals : ℕ) (held : Bool) (line : List ℕ) : Type 0 wh
 pub record Fillable (intervals : ℕ) (held : Bool) (text fences tails heads lengths holds speeds : List ℕ) : Type 0 where
   pub intervals_are : get_or (town_in (pieces line_feed text)) 1 0 ≡ intervals
   pub lines_end : (at : ℕ) → at < length text → EndsInside text at
-  pub fences_fill : Each (FencesLine intervals) (marked mark_fN (pieces line_feed text))
-  pub arcs_fill : Each (ArcLine intervals held) (marked mark_aR (pieces line_feed text))
+  pub fences_fill : Each (FencesLine intervals) (marked mark_fn (pieces line_feed text))
+  pub arcs_fill : Each (ArcLine intervals held) (marked mark_ar (pieces line_feed text))
   pub fences_long : length (network_of (town_of text)).fences ≤ length fences
   pub tails_long : length (network_of (town_of text)).tails ≤ length tails
   pub heads_long : length (network_of (town_of text)).heads ≤ length heads

@@ -5,7 +5,7 @@ use mathlib.Core.Path.{◌≡◌, refl, sym, ap, ◌∙◌}
 use mathlib.Core.Bool.{true}
 use mathlib.Core.List.{List}
 use native.Mathlib.Omega.{arith}
-use Rattle.townfile.specs.Lines.{mark_fN, mark_aR, mark_of, known}
+use Rattle.townfile.specs.Lines.{mark_fn, mark_ar, mark_of, known}
 use Rattle.townfile.proofs.Marks.{two_mark, mark_two}
 use Rattle.fields.specs.Fields.{line_from}
 use Rattle.fields.proofs.LineFrom.{line_inside}
@@ -78,8 +78,8 @@ loop-at-preserved-in-16722 c =
 -- ---- Another line
 pub loop-at-preserved : goal.loop-at-preserved
 loop-at-preserved c =
-    let no_fences : c.mark_at-mark.result ≡ mark_fN → ⊥ = search rules in
-    let no_arc : c.mark_at-mark.result ≡ mark_aR → ⊥ = search rules in
+    let no_fences : c.mark_at-mark.result ≡ mark_fn → ⊥ = search rules in
+    let no_arc : c.mark_at-mark.result ≡ mark_ar → ⊥ = search rules in
     other_next _ _ c.loop-at.invariant (λ e. no_fences (c.mark_at-mark.ensures ∙ mark_two _ e (λ e. omega arith)))
     (λ e. no_arc (c.mark_at-mark.ensures ∙ mark_two _ e (λ e. omega arith))) _ (ap (λ end. end + 1) c.line_end-at.ensures)
 

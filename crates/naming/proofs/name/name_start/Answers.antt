@@ -1,7 +1,7 @@
 -- `name::name_start`: of a line with the mark the number behind it is read, and the name begins behind the number's space.
 use mathlib.Core.Path.{◌≡◌, sym, ◌∙◌}
 use native.Mathlib.Omega.{arith}
-use Rattle.townfile.specs.Lines.{mark_jN, mark_of}
+use Rattle.townfile.specs.Lines.{mark_jn, mark_of}
 use Rattle.townfile.proofs.Marks.{two_mark, mark_two}
 use Rattle.fields.proofs.LineFrom.{line_inside}
 use Rattle.naming.proofs.Naming.{other_mark, other_junction, this_junction, name_begins, field_not_malformed, next_is}
@@ -13,7 +13,7 @@ use Rattle.townfile.specs.Lines.{first_two}
 pub returns-then-mark_at-ne-JUNCTION : goal.returns-then-mark_at-ne-JUNCTION
 returns-then-mark_at-ne-JUNCTION c = other_mark _ _ _ (λ is. c.if-mark_at-ne-JUNCTION.true (c.mark_at.ensures ∙ mark_two _ is (λ e. omega arith)))
 
-marked : (line : List ℕ) {found : ℕ} → found ≡ first_two line → found ≡ mark_jN → mark_of line ≡ mark_jN
+marked : (line : List ℕ) {found : ℕ} → found ≡ first_two line → found ≡ mark_jn → mark_of line ≡ mark_jn
 marked line f e = two_mark line (sym f ∙ e) (λ e. omega arith)
 
 pub overflow_add-at : goal.overflow_add-at

@@ -7,7 +7,7 @@ use mathlib.Core.List.{List, [], ◌∷◌}
 use mathlib.Core.Logic.{inl, inr}
 use native.Mathlib.Omega.{arith}
 use types.Run.{OneOf}
-use Rattle.townfile.specs.Lines.{mark_tN, mark_tW, mark_fN, mark_jN, mark_aR, mark_cM, first_two, mark_of, known}
+use Rattle.townfile.specs.Lines.{mark_tn, mark_tw, mark_fn, mark_jn, mark_ar, mark_cm, first_two, mark_of, known}
 use Rattle.townfile.proofs.Marks.{two_mark, mark_two, held_mark, town_two}
 use Rattle.fields.specs.Fields.{line_from}
 use Rattle.fields.proofs.BehindMark.{BehindMark, behind_mark_law}
@@ -21,7 +21,7 @@ behind : (text : List ℕ) (at : ℕ) → get_or text (at + 1) 0 < 256 → {mark
 behind text at byte k e = behind_mark_law text at byte (ap known e ∙ k)
 
 -- either of the two that begin a file
-town : (line : List ℕ) {found : ℕ} → found ≡ first_two line → OneOf (mark_tN ∷ mark_tW ∷ []) found → mark_of line ≡ mark_tN
+town : (line : List ℕ) {found : ℕ} → found ≡ first_two line → OneOf (mark_tn ∷ mark_tw ∷ []) found → mark_of line ≡ mark_tn
 town line f (inl e) = two_mark line (sym f ∙ e) (λ e. omega arith)
 town line f (inr e) = held_mark line (sym f ∙ e)
 
@@ -79,8 +79,8 @@ pub returns-in_default : goal.returns-in_default
 returns-in_default c =
     let line = line_from c.args.text.now c.args.at in
     let is : c.mark_at-mark.result ≡ first_two line = c.mark_at-mark.ensures in
-    let no_town : OneOf (mark_tN ∷ mark_tW ∷ []) c.mark_at-mark.result → ⊥ = search rules in
-    let other : (mark : ℕ) → (mark ≡ mark_tN → ⊥) → (c.mark_at-mark.result ≡ mark → ⊥) → mark_of line ≡ mark → ⊥ =
+    let no_town : OneOf (mark_tn ∷ mark_tw ∷ []) c.mark_at-mark.result → ⊥ = search rules in
+    let other : (mark : ℕ) → (mark ≡ mark_tn → ⊥) → (c.mark_at-mark.result ≡ mark → ⊥) → mark_of line ≡ mark → ⊥ =
     λ mark town no e. no (is ∙ mark_two line e town) in
-    no_line_is _ _ _ (λ e. town_two line e (λ e. no_town (inl (is ∙ e))) (λ e. no_town (inr (is ∙ e)))) (other mark_fN (λ e. omega arith) (search rules))
-    (other mark_jN (λ e. omega arith) (search rules)) (other mark_aR (λ e. omega arith) (search rules)) (other mark_cM (λ e. omega arith) (search rules))
+    no_line_is _ _ _ (λ e. town_two line e (λ e. no_town (inl (is ∙ e))) (λ e. no_town (inr (is ∙ e)))) (other mark_fn (λ e. omega arith) (search rules))
+    (other mark_jn (λ e. omega arith) (search rules)) (other mark_ar (λ e. omega arith) (search rules)) (other mark_cm (λ e. omega arith) (search rules))

@@ -1,5 +1,5 @@
-// The closures of a question by value. Reading a slice of structs is proved by hand: so its loop only copies, without a call, and what can be
-// proved otherwise stands in functions of its own.
+// The closures of a question by value. The loop that reads the slice only copies, without a call, and what else there is to do stands in
+// functions of its own.
 ghost use Rattle.std.specs.Prelude.{◌≡◌, min};
 ghost use Rattle.model.specs.Closures.{max_closures};
 ghost use Rattle.closures.specs.Records.{no_records_lem, counted, read_all};

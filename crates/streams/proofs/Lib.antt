@@ -1,2 +1,0 @@
-pub mod Counted
-pub mod Exit

@@ -111,6 +111,41 @@ module _ {N : Network} {labels intervals' arrivals heads : List ℕ} (p : TimedL
   pub next_has : (get_or predecessors (get_or heads k 0) 0 ≡ no_arc → ⊥) → LowestAttaining (net_of N) labels (k + 1) predecessors
   next_has has = stays_all k so_far (λ _ missing. (rw (← is) at has) (sym entry ∙ missing))
 
+-- ---- One arc
+
+-- The predecessors after arc k: it is put at its head where that has none yet and the arc attains its label, and else nothing changes.
+module _ (labels arrivals heads predecessors : List ℕ) (k : ℕ) where
+  abbrev pub attaining : Bool
+  attaining = not (eqb (get_or arrivals k 0) never) && eqb (get_or arrivals k 0) (get_or labels (get_or heads k 0) 0)
+
+  abbrev pub has_none : Type 0
+  has_none = get_or predecessors (get_or heads k 0) 0 ≡ no_arc
+
+pub record Goes (labels arrivals heads predecessors : List ℕ) (k : ℕ) (after : List ℕ) : Type 0 where
+  pub taken : has_none labels arrivals heads predecessors k → attaining labels arrivals heads predecessors k ≡ true → after ≡ set predecessors (get_or heads k 0) k
+  pub missed : has_none labels arrivals heads predecessors k → attaining labels arrivals heads predecessors k ≡ false → after ≡ predecessors
+  pub has : (has_none labels arrivals heads predecessors k → ⊥) → after ≡ predecessors
+
+pub goes_long : {labels arrivals heads predecessors : List ℕ} {k : ℕ} {after : List ℕ} → Goes labels arrivals heads predecessors k after → length after ≡ length predecessors
+goes_long {labels} {arrivals} {heads} {predecessors} {k} {after} g =
+    by_cases (ℕ_discrete (get_or predecessors (get_or heads k 0) 0) no_arc) (λ missing. go (attaining labels arrivals heads predecessors k) refl missing) (λ present. ap length (g.has present))
+  where
+    go : (b : Bool) → attaining labels arrivals heads predecessors k ≡ b → has_none labels arrivals heads predecessors k → length after ≡ length predecessors
+    go true e missing = ap length (g.taken missing e) ∙ length-set predecessors (get_or heads k 0) k
+    go false e missing = ap length (g.missed missing e)
+
+module _ {N : Network} {labels intervals' arrivals heads : List ℕ} (p : TimedLabels N labels intervals') (is : N.heads ≡ heads) (up-to-date : AllUpToDate N labels arrivals (length heads))
+    (k : ℕ) (inside : k < length heads) {predecessors : List ℕ} (so_far : LowestAttaining (net_of N) labels k predecessors) where
+  pub next_goes : {after : List ℕ} → Goes labels arrivals heads predecessors k after → LowestAttaining (net_of N) labels (k + 1) after
+  next_goes {after} g =
+      by_cases (ℕ_discrete (get_or predecessors (get_or heads k 0) 0) no_arc)
+      (λ missing. go (attaining labels arrivals heads predecessors k) refl missing)
+      (λ present. rw (g.has present) (next_has p is up-to-date k inside so_far present))
+    where
+      go : (b : Bool) → attaining labels arrivals heads predecessors k ≡ b → has_none labels arrivals heads predecessors k → LowestAttaining (net_of N) labels (k + 1) after
+      go true e missing = rw (g.taken missing e) (next_taken p is up-to-date k inside so_far missing e)
+      go false e missing = rw (g.missed missing e) (next_missed p is up-to-date k inside so_far e)
+
 -- ---- All arcs
 
 module _ {N : Network} {source departure : ℕ} (q : Taken N source departure) {labels predecessors : List ℕ} where

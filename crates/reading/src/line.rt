@@ -71,6 +71,7 @@ fn fences_line(progress: Progress, text: &[u8], at: usize) -> LineRead
     of_numbers(numbers, progress.after_fences())
 }
 
+#[tactic(auto, unfolding(crate::specs::Code::Kinds::junction_step))]
 fn junction_line(progress: Progress, text: &[u8], at: usize) -> LineRead
     ensures { outcome_of result ≡ junction_step progress text.now at }
 {

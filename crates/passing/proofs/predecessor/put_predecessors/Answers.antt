@@ -1,10 +1,11 @@
 -- `predecessor::put_predecessors` keeps `LowestAttaining` from arc to arc, of any network whose arcs are up to date.
-use Rattle.std.proofs.Common.{length, sym, ap, ◌∙◌, arith}
-use lib.ListN.{replicate, length-replicate, length-set}
+use Rattle.std.proofs.Common.{ℕ, ◌+◌, ◌<◌, List, length, ap, ◌∙◌, arith}
+use Rattle.std.proofs.lemmas.Grind.{common_steps}
+use lib.ListN.{replicate, length-replicate}
 use Rattle.model.specs.Labels.{no_arc}
-use Rattle.passing.proofs.Attaining.{none_yet, next_taken, next_missed, next_has}
+use Rattle.passing.proofs.Attaining.{none_yet, Goes, goes_long, next_goes}
 use Rattle.passing.proofs.predecessor.put_predecessors.Goals as goal
-use Rattle.passing.proofs.predecessor.put_predecessors.Goals.{then-predecessors-head+then-attains, then-predecessors-head+else-attains, else-predecessors-head}
+use Rattle.passing.proofs.predecessor.put_predecessors.Invariants.{KeptTo}
 
 pub loop-arc-init : goal.loop-arc-init
 loop-arc-init c =
@@ -13,26 +14,18 @@ loop-arc-init c =
       (ap length none_left ∙ length-replicate _ no_arc, omega arith),
     )
 
+-- Where an arc is put, and where it is not, is found by search, whatever the tests are.
+goes_on : (heads labels arrivals : List ℕ) (arc : ℕ) (predecessors : List ℕ) → KeptTo heads labels arrivals arc predecessors → arc < length heads →
+    {after : List ℕ} → Goes labels arrivals heads predecessors arc after → KeptTo heads labels arrivals (arc + 1) after
+goes_on heads labels arrivals arc predecessors (so_far, (long, _)) further goes = (
+  (λ N intervals is p up-to-date. next_goes p is up-to-date arc further (so_far N intervals is p up-to-date) goes),
+  (goes_long goes ∙ long, omega (arith, further)),
+)
+
 pub loop-arc-preserved : goal.loop-arc-preserved
 loop-arc-preserved c =
-    let so_far = c.loop-arc.invariant.0 in
-    let long = c.loop-arc.invariant.1.0 in
-    let further = c.loop-arc-test.true in
-    elim c.if-predecessors-head.branch [
-      | then-predecessors-head+then-attains w ↦
-          rw w.predecessors-is (
-            (λ N intervals is p up-to-date.
-                next_taken p is up-to-date _ further (so_far N intervals is p up-to-date) w.if-predecessors-head.true (sym w.attains.ensures ∙ w.if-attains.true)),
-            (rw length-set long, omega (arith, further)),
-          )
-      | then-predecessors-head+else-attains w ↦
-          rw w.predecessors-is (
-            (λ N intervals is p up-to-date. next_missed p is up-to-date _ further (so_far N intervals is p up-to-date) (sym w.attains.ensures ∙ w.if-attains.false)),
-            (long, omega (arith, further)),
-          )
-      | else-predecessors-head w ↦
-          rw w.predecessors-is (
-            (λ N intervals is p up-to-date. next_has p is up-to-date _ further (so_far N intervals is p up-to-date) w.if-predecessors-head.false),
-            (long, omega (arith, further)),
-          )
-    ]
+    goes_on c.args.heads.now c.args.labels.now c.args.arrivals.now c.loop-arc.arc c.loop-arc.predecessors c.loop-arc.invariant c.loop-arc-test.true (record {
+      taken = λ missing attains. grind (arith, common_steps);
+      missed = λ missing fails. grind (arith, common_steps);
+      has = λ present. grind (arith, common_steps);
+    })

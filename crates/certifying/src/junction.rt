@@ -10,6 +10,7 @@ use model::limit::MAX_JUNCTIONS;
 use model::tick::Tick;
 
 // The source has the departure and no predecessor. Any other junction is unreached with both marks, or has a tick up to the last and an arc into it.
+#[tactic(auto, using(crate::proofs::Deciding::unmarked_source))]
 fn stands(
     junction: usize,
     heads: &[u16],

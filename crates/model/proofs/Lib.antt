@@ -20,6 +20,7 @@ pub mod Passes
 pub mod Passed
 pub mod Pieces
 pub mod Predecessors
+pub mod Products
 pub mod Repeating
 pub mod Routes
 pub mod Rules

@@ -1,12 +1,10 @@
 -- `junction::stands`: the tests part the ways for a junction to stand.
-use Rattle.certifying.proofs.Deciding.{marked_source, marked_other, unmarked_source, after_last, no_such_arc, arc_into}
+use Rattle.std.proofs.Common.{rules}
+use Rattle.certifying.proofs.Deciding.{marked_source, marked_other, after_last, no_such_arc, arc_into}
 use Rattle.certifying.proofs.junction.stands.Goals as goal
 
-pub returns-then-predecessor-ne-NO_ARC : goal.returns-then-predecessor-ne-NO_ARC
-returns-then-predecessor-ne-NO_ARC c = unmarked_source _ _ _ _ _ _ c.if-predecessor-ne-NO_ARC.true c.if-junction-source.true
-
 pub returns-then-junction-source : goal.returns-then-junction-source
-returns-then-junction-source c = marked_source _ _ _ _ _ _ c.if-predecessor-ne-NO_ARC.false c.if-junction-source.true
+returns-then-junction-source c = marked_source _ _ _ _ _ _ (search rules) c.if-junction-source.true
 
 pub returns-then-predecessor-eq-NO_ARC : goal.returns-then-predecessor-eq-NO_ARC
 returns-then-predecessor-eq-NO_ARC c = marked_other _ _ _ _ _ _ c.requires c.if-predecessor-eq-NO_ARC.true c.if-junction-source.false

@@ -1,6 +1,6 @@
 -- `predecessor::put_predecessors` keeps `LowestAttaining` from arc to arc, of any network whose arcs are up to date.
 use Rattle.std.proofs.Common.{ℕ, ◌+◌, ◌<◌, List, length, ap, ◌∙◌, arith}
-use Rattle.std.proofs.lemmas.Grind.{common_steps}
+use borrow.Author.Rules.{rules}
 use lib.ListN.{replicate, length-replicate}
 use Rattle.model.specs.Labels.{no_arc}
 use Rattle.passing.proofs.Attaining.{none_yet, Goes, goes_long, next_goes}
@@ -25,7 +25,7 @@ goes_on heads labels arrivals arc predecessors (so_far, (long, _)) further goes 
 pub loop-arc-preserved : goal.loop-arc-preserved
 loop-arc-preserved c =
     goes_on c.args.heads.now c.args.labels.now c.args.arrivals.now c.loop-arc.arc c.loop-arc.predecessors c.loop-arc.invariant c.loop-arc-test.true (record {
-      taken = λ missing attains. grind (arith, common_steps);
-      missed = λ missing fails. grind (arith, common_steps);
-      has = λ present. grind (arith, common_steps);
+      taken = λ missing attains. search rules;
+      missed = λ missing fails. search rules;
+      has = λ present. search rules;
     })

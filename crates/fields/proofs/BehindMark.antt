@@ -1,6 +1,6 @@
 -- What stands behind a line's mark: the two bytes of a known mark are no spaces, so the fields of the line are those behind it.
 use Prim.Native.Nat.{ℕ, suc, ◌+◌, ◌*◌, ◌≤◌, ◌<◌}
-use mathlib.Core.Path.{◌≡◌, ◌∙◌}
+use mathlib.Core.Path.{◌≡◌, ap, ◌∙◌}
 use mathlib.Core.Bool.{true, cond}
 use mathlib.Core.Logic.{inl, inr}
 use mathlib.Core.List.{List, ◌∷◌}
@@ -85,3 +85,7 @@ module _ (text : List ℕ) (at : ℕ) (byte : get_or text (at + 1) 0 < 256) wher
     where
       is : Known (mark_of (line_from text at))
       is = known_mark (mark_of (line_from text at)) k
+
+  -- The same where the mark is given.
+  pub behind_known : {mark : ℕ} → known mark ≡ true → mark_of (line_from text at) ≡ mark → BehindMark text at
+  behind_known k e = behind_mark_law (ap known e ∙ k)

@@ -9,7 +9,8 @@ use Rattle.dijkstra.proofs.label.label_all.Given as goal
 
 abbrev pub invariant-loop-first : goal.invariant-loop-first
 invariant-loop-first l =
-    Between (network l.junctions l.fences l.tails l.heads l.lengths l.holds l.speeds (closures_of l.closures)) l.source l.departure l.first l.next l.settled (tables l.labels l.predecessors l.intervals l.tree)
+    Between (network l.junctions l.fences l.tails l.heads l.lengths l.holds l.speeds (closures_of l.closures))
+    l.source l.departure l.first l.next l.settled (tables l.labels l.predecessors l.intervals l.tree)
 
 abbrev pub decreases-loop-first : goal.decreases-loop-first
 decreases-loop-first l =

@@ -20,7 +20,8 @@ returns-then-end-ne0-clause-arrives_on c =
     let drives = rw add-sub_cancel_left at c.drive_closed_with_hold.ensures.result_value in
     λ few kept.
     drives kept
-    ∙ ap (tick_and_interval? args.fences.now) (part_drive (R (goal.at.returns-then-end-ne0-clause-arrives_on c).Start) args.closures.now c.requires.marked few args.arc c.requires.has_arc.few_arcs refl args.tick)
+    ∙ ap (tick_and_interval? args.fences.now) (part_drive (R (goal.at.returns-then-end-ne0-clause-arrives_on c).Start) args.closures.now c.requires.marked few args.arc
+    c.requires.has_arc.few_arcs refl args.tick)
 
 -- without any the plan does
 pub returns-clause-arrives_on : goal.returns-clause-arrives_on
@@ -31,4 +32,5 @@ returns-clause-arrives_on c =
     let drives = rw add-sub_cancel_left at c.drive_with_hold.ensures.result_value in
     λ few kept.
     drives kept
-    ∙ ap (tick_and_interval? args.fences.now) (open_drive (R (goal.at.returns-clause-arrives_on c).Start) args.closures.now c.requires.marked few args.arc c.requires.has_arc.few_arcs refl none args.tick)
+    ∙ ap (tick_and_interval? args.fences.now) (open_drive (R (goal.at.returns-clause-arrives_on c).Start) args.closures.now c.requires.marked few args.arc
+    c.requires.has_arc.few_arcs refl none args.tick)

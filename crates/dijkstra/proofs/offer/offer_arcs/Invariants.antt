@@ -9,7 +9,8 @@ use Rattle.dijkstra.proofs.offer.offer_arcs.Given as goal
 
 abbrev pub invariant-loop-a : goal.invariant-loop-a
 invariant-loop-a l =
-    Onward (roads l.fences l.lengths l.holds l.speeds (closures_of l.closures)) l.heads l.next l.first (tables l.initial.labels l.initial.predecessors l.initial.intervals l.initial.tree) l.settled l.tick
+    Onward (roads l.fences l.lengths l.holds l.speeds (closures_of l.closures)) l.heads l.next l.first
+    (tables l.initial.labels l.initial.predecessors l.initial.intervals l.initial.tree) l.settled l.tick
     l.interval l.a (tables l.labels l.predecessors l.intervals l.tree)
 
 abbrev pub decreases-loop-a : goal.decreases-loop-a

@@ -30,4 +30,6 @@ pub returns-in_default : goal.returns-in_default
 returns-in_default c = no_first_digit _ _ (gap_begins _ _ c.if-text-at.false c.if-text-at-ne-SPACE.false) c.if-text-first.false (below_digits (get_or c.args.text.now (c.args.at + 1) 0) (omega arith))
 
 pub returns-in_default-2 : goal.returns-in_default-2
-returns-in_default-2 c = no_first_digit _ _ (gap_begins _ _ c.if-text-at.false c.if-text-at-ne-SPACE.false) c.if-text-first.false (above_digits (get_or c.args.text.now (c.args.at + 1) 0) (omega arith))
+returns-in_default-2 c =
+    no_first_digit _ _ (gap_begins _ _ c.if-text-at.false c.if-text-at-ne-SPACE.false) c.if-text-first.false
+    (above_digits (get_or c.args.text.now (c.args.at + 1) 0) (omega arith))

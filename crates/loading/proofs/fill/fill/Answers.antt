@@ -1,22 +1,14 @@
 -- `fill::fill`: at each turn storing what the lines that are left give comes to storing what all give; behind the last line none is left.
 use borrow.Author.Rules.{rules}
-use Prim.Native.Nat.{ℕ, ◌+◌, ◌<◌}
+use Prim.Native.Nat.{◌+◌}
 use mathlib.Core.Path.{◌≡◌, refl, sym, ap, ◌∙◌}
-use mathlib.Core.Bool.{true}
-use mathlib.Core.List.{List}
 use native.Mathlib.Omega.{arith}
-use Rattle.townfile.specs.Lines.{mark_fn, mark_ar, mark_of, known}
+use Rattle.townfile.specs.Lines.{mark_fn, mark_ar}
 use Rattle.townfile.proofs.Marks.{two_mark, mark_two}
-use Rattle.fields.specs.Fields.{line_from}
 use Rattle.fields.proofs.LineFrom.{line_inside}
-use Rattle.fields.proofs.BehindMark.{BehindMark, behind_mark_law}
+use Rattle.fields.proofs.BehindMark.{behind_known}
 use Rattle.loading.proofs.Filling.{fillable_starts, fences_asked, fences_next, arc_asked, arc_next, other_next, filled_whole}
 use Rattle.loading.proofs.fill.fill.Goals as goal
-use lib.ListN.{get_or}
-
--- the line behind a known mark
-behind_known : (text : List ℕ) (at : ℕ) → get_or text (at + 1) 0 < 256 → {mark : ℕ} → known mark ≡ true → mark_of (line_from text at) ≡ mark → BehindMark text at
-behind_known text at byte k e = behind_mark_law text at byte (ap known e ∙ k)
 
 pub loop-at-init : goal.loop-at-init
 loop-at-init c = fillable_starts c.requires

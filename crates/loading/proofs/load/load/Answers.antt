@@ -14,7 +14,8 @@ returns-then-lacks_room c =
 pub fill-requires : goal.fill-requires
 fill-requires c =
     let long = sym c.lacks_room.ensures ∙ c.if-lacks_room.false in
-    accepted_fillable _ (λ i h. (c.type_inv.text i).fits) _ (sym c.in-Read.ensures) (tables c.args.fences.now c.args.tails.now c.args.heads.now c.args.lengths.now c.args.holds.now c.args.speeds.now) long
+    accepted_fillable _ (λ i h. (c.type_inv.text i).fits) _ (sym c.in-Read.ensures)
+    (tables c.args.fences.now c.args.tails.now c.args.heads.now c.args.lengths.now c.args.holds.now c.args.speeds.now) long
 
 pub returns-in-Refused : goal.returns-in-Refused
 returns-in-Refused c =

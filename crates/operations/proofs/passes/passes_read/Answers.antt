@@ -9,5 +9,6 @@ returns c =
     let args = c.args in
     let N = network_in args.junctions args.fences args.tails args.heads args.lengths args.holds args.speeds [] in
     let e = c.passes.ensures in
-    let told = alike (passes_too_long N args.asker args.source args.departure.number args.labels.now args.predecessors.now) (rw (← c.row_count-count.ensures.value) at (c.put_rows.ensures.rows refl)) (e.answer, (e.labels, e.predecessors)) in
+    let told = alike (passes_too_long N args.asker args.source args.departure.number args.labels.now args.predecessors.now)
+    (rw (← c.row_count-count.ensures.value) at (c.put_rows.ensures.rows refl)) (e.answer, (e.labels, e.predecessors)) in
     record { answer = told.0; labels = told.1.0; predecessors = told.1.1 }

@@ -9,5 +9,6 @@ returns c =
     let args = c.args in
     let N = network_in args.junctions args.fences args.tails args.heads args.lengths args.holds args.speeds [] in
     let e = c.sheet.ensures in
-    let told = alike (sheet_too_long N args.asker args.source args.departures.now args.labels.now args.figures.now) (rw (← c.row_count-count.ensures.value) at (c.put_rows.ensures.rows refl)) (e.answer, (e.labels, e.figures)) in
+    let told = alike (sheet_too_long N args.asker args.source args.departures.now args.labels.now args.figures.now)
+    (rw (← c.row_count-count.ensures.value) at (c.put_rows.ensures.rows refl)) (e.answer, (e.labels, e.figures)) in
     record { answer = told.0; labels = told.1.0; figures = told.1.1 }

@@ -8,4 +8,5 @@ pub returns : goal.returns
 returns c =
     let args = c.args in
     let N = network_in args.junctions args.fences args.tails args.heads args.lengths args.holds args.speeds [] in
-    answer_alike (tables_too_long N args.asker args.source args.departure.number args.labels.now args.predecessors.now) (rw (← c.row_count-count.ensures.value) at (c.put_rows.ensures.rows refl)) c.tables_check.ensures
+    answer_alike (tables_too_long N args.asker args.source args.departure.number args.labels.now args.predecessors.now)
+    (rw (← c.row_count-count.ensures.value) at (c.put_rows.ensures.rows refl)) c.tables_check.ensures

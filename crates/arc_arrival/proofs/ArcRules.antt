@@ -1,15 +1,16 @@
 -- Arc arrival's rules: no test fires exactly where the plain rules hold, and then the engine, from the departure's interval on, gives
 -- the reply.
-use Prim.Native.Nat.{ℕ}
+use Prim.Native.Nat.{ℕ, ◌<◌}
 use mathlib.Core.Path.{◌≡◌, refl, sym, ap, ◌∙◌}
 use mathlib.Core.Bool.{not}
 use mathlib.Core.List.{List}
-use mathlib.Core.Option.{Option, some}
+use Rattle.std.specs.Prelude.{Option, Some}
+use native.Mathlib.Omega.{arith}
 use lib.Dec.{eqb}
 use lib.ListN.{length}
 use borrow.Author.Tests.{not-false, eqb-true, ltb-false, leb-true, eq-eqb, le-ltb, le-leb}
 use Rattle.model.specs.Ticks.{last}
-use Rattle.model.specs.Limits.{max_speed, max_hold}
+use Rattle.model.specs.Limits.{max_intervals, max_speed, max_hold}
 use Rattle.model.specs.Flow.{spans_of}
 use Rattle.model.specs.Holds.{arrival_with_hold}
 use Rattle.model.specs.Intervals.{speed_at, tick_and_interval?, contains?}
@@ -90,6 +91,14 @@ arc_replies_when_accepted departure interval metres hold fences speeds r = (
 
 pub arc_gives_interval : ArcGivesInterval
 arc_gives_interval departure interval metres hold fences speeds tick Arrives-in e k =
-    let (accepted, is_reply) = (arc_replies_when_accepted departure interval metres hold fences speeds (some (tick, Arrives-in))).0 e in
+    let (accepted, is_reply) = (arc_replies_when_accepted departure interval metres hold fences speeds (Some (tick, Arrives-in))).0 e in
     let (at, interval_is, in_time) = arrived_at_law fences tick Arrives-in (arrival_with_hold (speed_at fences speeds) (spans_of metres) hold departure) is_reply in
     rw (interval_is, ← at) (interval_contains fences accepted.fences_kept accepted.some_interval k tick)
+
+-- So it is one of the fences' places, of which there are 96 at most.
+pub arrives_in_few : (departure interval metres hold : ℕ) (fences speeds : List ℕ) (tick arrives_in : ℕ) →
+    arc_arrival_lem departure interval metres hold fences speeds ≡ replied (Some (tick, arrives_in)) → arrives_in < max_intervals
+arrives_in_few departure interval metres hold fences speeds tick arrives_in e =
+    let accepted = ((arc_replies_when_accepted departure interval metres hold fences speeds (Some (tick, arrives_in))).0 e).0 in
+    let contains = (arc_gives_interval departure interval metres hold fences speeds tick arrives_in e arrives_in).0 refl in
+    omega (arith, accepted.intervals_fit)

@@ -3,23 +3,21 @@
 -- interval of an arrival] back beside the tick", "Arc arrival is now always given the departure's interval too", and "46, the interval given
 -- does not contain the departure's remainder by 864,000, after 15". Order 5: "The hold is given to Arc arrival as one more number"; "32, a hold
 -- above 1,200, directly after 8".
-use Rattle.std.specs.Prelude.{ℕ, ◌≤◌, ◌<◌, ◌≡◌, not, List, [], ◌∷◌, ◌↔◌, ltb, eqb, length, get_or}
-use Rattle.std.proofs.Math.Option.{Option, none, some}
-use Rattle.model.specs.Ticks.{last}
+use Rattle.std.specs.Prelude.{ℕ, ◌≤◌, ◌<◌, ◌≡◌, not, List, [], ◌∷◌, ◌↔◌, ltb, eqb, length, get_or, Option, Some, Result, Ok, Err}
+use Rattle.model.specs.Ticks.{last, arrived_at}
 use Rattle.model.specs.Limits.{max_intervals, max_length, max_speed, max_hold}
 use Rattle.model.specs.Flow.{spans_of}
 use Rattle.model.specs.Holds.{arrival_with_hold}
 use Rattle.model.specs.Intervals.{FencesKept, speed_at, tick_and_interval?, contains?, Contains}
 use Rattle.refusals.specs.Refusals.{number_of}
 use Rattle.model.specs.Rules.{Outcome, refused, replied, Rule, ◌if◌, first_broken, every, count_keeps, fences_keep_lem, length_keeps_lem, speed_keeps, hold_keeps}
-use Rattle.arc_arrival.specs.declared.arc.ArcArrival.{ArcArrival}
-use Rattle.arc_arrival.specs.declared.arc.ArcArrival.TheVariants.{At, CannotBeDriven, Refused}
+use Rattle.model.specs.declared.tick.Arrival.{Arrival}
+use Rattle.refusals.specs.declared.refusal.Refusal.{Refusal}
 
--- The answer's number and value: the tick and its interval, or none where the arc cannot be driven.
-abbrev pub outcome_of : ArcArrival → Outcome (Option (ℕ × ℕ))
-outcome_of (At t interval) = replied (some (t.number, interval))
-outcome_of CannotBeDriven = replied none
-outcome_of (Refused refusal) = refused (number_of refusal)
+-- What Arc arrival comes to: the tick and its interval, or none where the arc cannot be driven; or a refusal.
+abbrev pub arc_outcome : Result (Option Arrival) Refusal → Outcome (Option (ℕ × ℕ))
+arc_outcome (Ok driven) = replied (arrived_at driven)
+arc_outcome (Err refusal) = refused (number_of refusal)
 
 abbrev pub arc_rules : ℕ → ℕ → ℕ → ℕ → List ℕ → List ℕ → List Rule
 arc_rules departure interval metres hold fences speeds =
@@ -63,4 +61,4 @@ ArcRepliesWhenAccepted = (departure interval metres hold : ℕ) (fences speeds :
 -- next fence, if there is one, is after it.
 abbrev pub ArcGivesInterval : Type 0
 ArcGivesInterval = (departure interval metres hold : ℕ) (fences speeds : List ℕ) (tick Arrives-in : ℕ) →
-    arc_arrival_lem departure interval metres hold fences speeds ≡ replied (some (tick, Arrives-in)) → (k : ℕ) → (k ≡ Arrives-in) ↔ Contains fences k tick
+    arc_arrival_lem departure interval metres hold fences speeds ≡ replied (Some (tick, Arrives-in)) → (k : ℕ) → (k ≡ Arrives-in) ↔ Contains fences k tick

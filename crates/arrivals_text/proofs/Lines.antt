@@ -1,6 +1,6 @@
 -- A line for each junction: the lines of the first junctions, with the next one's behind them. And the room that lines need.
 use Prim.Native.Nat.{ℕ, zero, suc, ◌+◌, ◌*◌, ◌≤◌, ◌<◌}
-use mathlib.Core.Path.{◌≡◌, ◌∙◌}
+use mathlib.Core.Path.{◌≡◌, refl, ◌∙◌}
 use mathlib.Core.List.{List, [], ◌∷◌, ◌++◌, append_assoc, append-nil}
 use native.Mathlib.Numerals.{add-one}
 use native.Mathlib.Omega.{arith}
@@ -9,10 +9,11 @@ use lib.Seq.{take_all}
 use Rattle.model.specs.Ticks.{never}
 use Rattle.model.specs.Labels.{no_arc}
 use Rattle.formatting.specs.Digits.{digits_of}
-use Rattle.formatting.specs.Putting.{PutIfRoom}
+use Rattle.formatting.specs.Output.{Puts}
+use Rattle.formatting.specs.declared.output.Output.{Output}
 use Rattle.formatting.specs.Texts.{number_unless}
 use Rattle.formatting.proofs.Digits.{tens, digits_short}
-use Rattle.formatting.proofs.Putting.{room_then}
+use Rattle.formatting.proofs.Putting.{nothing_put, puts_then}
 use Rattle.formatting.proofs.Texts.{number_short}
 use Rattle.arrivals_text.specs.Answer.{junction_line_lem, junction_lines, header, table_text}
 use Rattle.arrivals_text.specs.Code.Tables.{TableFits}
@@ -33,16 +34,20 @@ line_more k (suc j) (label ∷ labels) (predecessor ∷ predecessors) same h =
     rw (line_more (suc k) j labels predecessors (omega arith) (omega arith), later, append_assoc)
 
 -- The lines of the junctions before the j-th are put.
-abbrev pub LinesPut : List ℕ → List ℕ → ℕ → ℕ → List ℕ → List ℕ → ℕ → Type 0
-LinesPut labels predecessors j at before after behind = PutIfRoom (junction_lines 0 (take j labels) (take j predecessors)) at before after behind
+abbrev pub LinesPut : List ℕ → List ℕ → ℕ → Output → Output → Type 0
+LinesPut labels predecessors j before after = Puts (junction_lines 0 (take j labels) (take j predecessors)) before after
 
-module _ (labels predecessors : List ℕ) {before after : List ℕ} {j at behind : ℕ} where
-  pub line_put : {between : List ℕ} {middle : ℕ} → length predecessors ≡ length labels → j < length labels → LinesPut labels predecessors j at before between middle →
-      PutIfRoom (junction_line_lem j (get_or labels j 0) (get_or predecessors j 0)) middle between after behind → LinesPut labels predecessors (j + 1) at before after behind
-  line_put same h puts puts-line = let here : 0 + j ≡ j = omega arith in rw (add-one j, line_more 0 j labels predecessors same h, here) (room_then puts puts-line)
+pub none_put : (labels predecessors : List ℕ) (before : Output) → LinesPut labels predecessors 0 before before
+unfolding junction_lines
+none_put labels predecessors before = record { lent = refl; puts = nothing_put before.buffer.now before.length }
 
-  pub lines_put : length predecessors ≡ length labels → length labels ≤ j → LinesPut labels predecessors j at before after behind →
-      PutIfRoom (junction_lines 0 labels predecessors) at before after behind
+module _ (labels predecessors : List ℕ) {before after : Output} {j : ℕ} where
+  pub line_put : {between : Output} → length predecessors ≡ length labels → j < length labels → LinesPut labels predecessors j before between →
+      Puts (junction_line_lem j (get_or labels j 0) (get_or predecessors j 0)) between after → LinesPut labels predecessors (j + 1) before after
+  line_put same h puts puts-line = let here : 0 + j ≡ j = omega arith in rw (add-one j, line_more 0 j labels predecessors same h, here) (puts_then puts puts-line)
+
+  pub lines_put : length predecessors ≡ length labels → length labels ≤ j → LinesPut labels predecessors j before after →
+      Puts (junction_lines 0 labels predecessors) before after
   lines_put same h puts = let h' : length predecessors ≤ j = omega arith in rw (take_all j labels h, take_all j predecessors h') at puts
 
 -- ---- How long a line is

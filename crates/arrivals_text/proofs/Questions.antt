@@ -8,6 +8,7 @@ use native.Mathlib.Omega.{arith}
 use lib.Dec.{eqb}
 use lib.ListN.{length, get_or, take, replicate}
 use borrow.Author.Tests.{eq-eqb, ne_eqb, eqb-true}
+use Rattle.std.specs.Prelude.{Some, None}
 use Rattle.model.specs.Rules.{written}
 use Rattle.model.proofs.Rules.{true_both, both_true}
 use Rattle.townfile.specs.Grammar.{Bytes}
@@ -16,8 +17,7 @@ use Rattle.question_line.specs.Question.{mark_qu, source_in, town_text}
 use Rattle.question_line.proofs.Asked.{NumbersAsked}
 use Rattle.question_line.proofs.Forms.{of_form_when_written}
 use Rattle.arrivals_text.specs.Question.{asks, departure_in, QuestionAndText, AsksWhenOfForm}
-use Rattle.arrivals_text.specs.Code.Found.{question_in_lem}
-use Rattle.arrivals_text.specs.declared.question.Question.TheVariants.{Asked, Malformed}
+use Rattle.arrivals_text.specs.Code.Found.{question, question_in_lem}
 
 two_of : (numbers : List ℕ) → length numbers ≡ 2 → numbers ≡ get_or numbers 0 0 ∷ get_or numbers 1 0 ∷ []
 two_of [] e = absurd (omega arith)
@@ -28,21 +28,21 @@ two_of (a ∷ b ∷ c ∷ numbers) e = absurd (omega arith)
 -- ---- What the code finds
 
 module _ (input : List ℕ) where
-  not_asked : asks input ≡ false → Malformed ≡ question_in_lem input
+  not_asked : asks input ≡ false → None ≡ question_in_lem input
   unfolding question_in_lem
   not_asked e = rw e
 
-  pub other_form : of_form mark_qu input ≡ false → Malformed ≡ question_in_lem input
+  pub other_form : of_form mark_qu input ≡ false → None ≡ question_in_lem input
   unfolding asks
   other_form e = not_asked (rw e)
 
   module _ {count next : ℕ} (line : NumbersAsked mark_qu input count next) where
-    pub other_count : (count ≡ 2 → ⊥) → Malformed ≡ question_in_lem input
+    pub other_count : (count ≡ 2 → ⊥) → None ≡ question_in_lem input
     unfolding asks
     other_count e = not_asked (rw (line.form, ne_eqb (length (numbers_in input)) 2 (λ two. e (sym line.counted ∙ two))))
 
     module _ (two : count ≡ 2) {table : List ℕ} (copied : table ≡ written (take 2 (numbers_in input)) (replicate 2 0)) where
-      pub asked : Asked (get_or table 0 0) (get_or table 1 0) next ≡ question_in_lem input
+      pub asked : Some (question (get_or table 0 0) (get_or table 1 0) next) ≡ question_in_lem input
       unfolding question_in_lem asks
       asked =
           let as_many = line.counted ∙ two in

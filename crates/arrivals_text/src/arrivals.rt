@@ -6,12 +6,12 @@ ghost use Rattle.formatting.specs.Texts.{is_refusal};
 ghost use Rattle.formatting.specs.Printed.{PrintedAnswer};
 ghost use Rattle.arrivals_text.specs.Answer.{answer_to, table_of, text_of_arrivals};
 
-use crate::question::{Question, question_in};
+use crate::question::question_in;
 use crate::table::put_table;
 use formatting::text::{OUTPUT, Text, refuse};
 use model::limit::MAX_JUNCTIONS;
 use refusals::refusal::Refusal;
-use town_labels::town::{TownLabelled, town_labels};
+use town_labels::town::town_labels;
 use townfile::limit::MAX_TEXT;
 
 // The arrivals in the town of a town file.
@@ -21,8 +21,8 @@ fn town_arrivals(text: &[u8], source: u32, departure: u32, output: &mut [u8; OUT
     let mut labels = [0u32; MAX_JUNCTIONS];
     let mut predecessors = [0u16; MAX_JUNCTIONS];
     match town_labels(text, source, departure, &mut labels, &mut predecessors) {
-        TownLabelled::Refused { refusal, line } => refuse(output, refusal, line),
-        TownLabelled::Junctions(junctions) => {
+        Err(fault) => refuse(output, fault.refusal, fault.line),
+        Ok(junctions) => {
             let count = junctions as usize;
             put_table(output, &labels[..count], &predecessors[..count])
         }
@@ -37,13 +37,13 @@ pub fn arrivals(input: &[u8], output: &mut [u8; OUTPUT]) -> Text
     if MAX_TEXT < input.len() {
         return refuse(output, Refusal::TextLength, 0);
     }
-    let Question::Asked {
-        source,
-        departure,
-        town,
-    } = question_in(input)
-    else {
+    let Some(question) = question_in(input) else {
         return refuse(output, Refusal::FieldForm, 0);
     };
-    town_arrivals(&input[town..], source, departure, output)
+    town_arrivals(
+        &input[question.town..],
+        question.source,
+        question.departure,
+        output,
+    )
 }

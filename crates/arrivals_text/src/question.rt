@@ -2,32 +2,27 @@
 ghost use Rattle.std.specs.Prelude.{◌≡◌};
 ghost use Rattle.arrivals_text.specs.Code.Found.{question_in_lem};
 
-use question_line::line::{Asked, QUESTION, numbers_line};
+use question_line::line::{QUESTION, numbers_line};
 
 // The two numbers of the question and where the town file begins.
 #[derive(Clone, Copy)]
-pub(crate) enum Question {
-    Asked {
-        source: u32,
-        departure: u32,
-        town: usize,
-    },
-    Malformed,
+pub(crate) struct Question {
+    pub source: u32,
+    pub departure: u32,
+    pub town: usize,
 }
 
-pub(crate) fn question_in(input: &[u8]) -> Question
+pub(crate) fn question_in(input: &[u8]) -> Option<Question>
     ensures { result ≡ question_in_lem input.now }
 {
     let mut numbers = [0u32; 2];
-    let Asked::Numbers { count, next } = numbers_line(QUESTION, input, &mut numbers) else {
-        return Question::Malformed;
-    };
-    if count != 2 {
-        return Question::Malformed;
+    let asked = numbers_line(QUESTION, input, &mut numbers)?;
+    if asked.count != 2 {
+        return None;
     }
-    Question::Asked {
+    Some(Question {
         source: numbers[0],
         departure: numbers[1],
-        town: next,
-    }
+        town: asked.next,
+    })
 }

@@ -2,7 +2,7 @@
 use Prim.Native.Nat.{ℕ, ◌+◌}
 use mathlib.Core.Path.{◌≡◌}
 use mathlib.Core.List.{List}
-use mathlib.Core.Option.{Option, some}
+use Rattle.std.specs.Prelude.{Option, Some}
 use Rattle.model.specs.Demands.{label}
 use Rattle.model.specs.Network.{Network, network_for}
 use Rattle.model.specs.Parties.{brigade}
@@ -12,7 +12,8 @@ use Rattle.routing.specs.Route.{route_answer, route_arrival}
 use Rattle.townfile.specs.FirstFault.{refused_at, accepted}
 use Rattle.townfile.specs.Grammar.{network_of}
 use Rattle.townfile.specs.Tables.{town_of}
-use Rattle.townfile.specs.Load.{Counts, roomy_tables, load_answer}
+use Rattle.townfile.specs.Load.{roomy_tables, load_answer}
+use Rattle.townfile.specs.declared.counts.Counts.{Counts}
 use Rattle.cabinet.specs.Host.{host_list, after_route, label_or_code, host_answer}
 
 module _ (N : Network) (source departure destination : ℕ) where
@@ -21,11 +22,11 @@ module _ (N : Network) (source departure destination : ℕ) where
 
   -- The label is that of the network as the brigade finds it, which a town's network is.
   pub route_arrives : {count arrival : ℕ} → replied count ≡ route_answer N brigade source departure destination host_list →
-      some arrival ≡ route_arrival N brigade source departure destination host_list →
+      Some arrival ≡ route_arrival N brigade source departure destination host_list →
       arrival ≡ after_route (route_answer N brigade source departure destination host_list) (label (network_for N brigade) source departure destination)
   route_arrives e arrives = rw (← e) (same (rw (← e) at arrives))
     where
-      same : {a b : ℕ} → ◌≡◌ {A = Option ℕ} (some a) (some b) → a ≡ b
+      same : {a b : ℕ} → ◌≡◌ {A = Option ℕ} (Some a) (Some b) → a ≡ b
       same e = cc
 
 module _ (text : List ℕ) (source departure destination : ℕ) where

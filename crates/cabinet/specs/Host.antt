@@ -14,7 +14,8 @@ use Rattle.routing.specs.Route.{route_answer}
 use Rattle.townfile.specs.FirstFault.{Reading, refused_at, accepted}
 use Rattle.townfile.specs.Grammar.{Bytes, Town, DescribesTown, network_of}
 use Rattle.townfile.specs.Tables.{town_of}
-use Rattle.townfile.specs.Load.{Counts, roomy_tables, load_answer}
+use Rattle.townfile.specs.Load.{roomy_tables, load_answer}
+use Rattle.townfile.specs.declared.counts.Counts.{Counts}
 
 -- The list for the route, before anything is written.
 abbrev pub host_list : List ℕ

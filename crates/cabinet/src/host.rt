@@ -1,79 +1,55 @@
 // Host question: the destination's label in the town that a text describes, or a refusal's code.
-ghost use Rattle.std.specs.Prelude.{◌≡◌};
+ghost use Rattle.std.specs.Prelude.{◌≡◌, []};
 ghost use Rattle.model.specs.Parties.{brigade};
-ghost use Rattle.townfile.specs.Load.{counts, LongEnough, network_at};
-ghost use Rattle.townfile.specs.Lent.{lent_tables, tables_in};
-ghost use Rattle.loading.specs.Loaded.{reading_of};
-ghost use Rattle.routing.specs.Route.{outcome_of, arrival_of, route_answer, route_arrival};
+ghost use Rattle.townfile.specs.Answers.{reading_of};
+ghost use Rattle.model.specs.Lent.{lent_network};
+ghost use Rattle.routing.specs.Route.{route_outcome, arrival_of, route_answer, route_arrival};
 ghost use Rattle.cabinet.specs.Host.{host_list, after_load, after_route, host_answer};
 
-use loading::load::{Loaded, load};
-use model::limit::{MAX_ARCS, MAX_INTERVALS, MAX_JUNCTIONS};
+use loading::town::Town;
+use model::limit::MAX_JUNCTIONS;
+use model::network::Network;
 use model::party::BRIGADE;
 use model::tick::Tick;
+use refusals::refusal::Refusal;
 use routing::route::{Routed, route};
-
-const MAX_SPEEDS: usize = MAX_ARCS * MAX_INTERVALS;
+use townfile::counts::Counts;
+use townfile::fault::Fault;
 
 // The code of Load's refusal; 0 where it loaded.
-fn load_code(loaded: Loaded) -> u32
+fn load_code(loaded: Result<Counts, Fault>) -> u32
     ensures { result ≡ after_load (reading_of loaded) 0 }
 {
     match loaded {
-        Loaded::Refused { refusal, line: _ } => refusal.code(),
-        Loaded::Counts {
-            junctions: _,
-            intervals: _,
-            arcs: _,
-        } => 0,
+        Ok(_) => 0,
+        Err(fault) => fault.refusal.code(),
     }
 }
 
 // The code of Route's refusal; 0 where it found a route.
-fn route_code(routed: Routed) -> u32
-    ensures { result ≡ after_route (outcome_of routed) 0 }
+fn route_code(routed: Result<Routed, Refusal>) -> u32
+    ensures { result ≡ after_route (route_outcome routed) 0 }
 {
     match routed {
-        Routed::Refused(refusal) => refusal.code(),
-        Routed::Arcs {
-            count: _,
-            arrival: _,
-        } => 0,
+        Ok(_) => 0,
+        Err(refusal) => refusal.code(),
     }
 }
 
-// Route in the network that stands at the tables' start, with room for every route.
-fn route_in_tables(
-    junctions: u32,
-    intervals: usize,
-    arcs: usize,
-    fences: &[u32],
-    tails: &[u16],
-    heads: &[u16],
-    lengths: &[u32],
-    holds: &[u16],
-    speeds: &[u8],
+// Route in a town's network, with room for every route.
+fn route_in_town(
+    network: &Network<'_>,
     source: u32,
     departure: u32,
     destination: u32,
-) -> Routed
-    requires { LongEnough (counts junctions intervals arcs) (tables_in fences tails heads lengths holds speeds) }
-    ensures answer { outcome_of result ≡
-        route_answer (network_at (counts junctions intervals arcs) (lent_tables fences tails heads lengths holds speeds)) brigade source departure destination host_list }
-    ensures arrival { arrival_of result ≡
-        route_arrival (network_at (counts junctions intervals arcs) (lent_tables fences tails heads lengths holds speeds)) brigade source departure destination host_list }
+) -> Result<Routed, Refusal>
+    ensures answer { route_outcome result ≡ route_answer (lent_network network.now []) brigade source departure destination host_list }
+    ensures arrival { arrival_of result ≡ route_arrival (lent_network network.now []) brigade source departure destination host_list }
 {
-    let speed_count = arcs * intervals;
     let mut list = [0u16; MAX_JUNCTIONS];
     let no_closures = [[0u32; 4]; 0];
     route(
-        junctions,
-        &fences[..intervals],
-        &tails[..arcs],
-        &heads[..arcs],
-        &lengths[..arcs],
-        &holds[..arcs],
-        &speeds[..speed_count],
+        network,
         &no_closures,
         BRIGADE,
         source,
@@ -93,45 +69,15 @@ pub extern "C" fn cabinet_host_question(
 ) -> u32
     ensures { result ≡ host_answer text.now source departure destination }
 {
-    let mut fences = [0u32; MAX_INTERVALS];
-    let mut tails = [0u16; MAX_ARCS];
-    let mut heads = [0u16; MAX_ARCS];
-    let mut lengths = [0u32; MAX_ARCS];
-    let mut holds = [0u16; MAX_ARCS];
-    let mut speeds = [0u8; MAX_SPEEDS];
-    let loaded = load(
-        text,
-        &mut fences,
-        &mut tails,
-        &mut heads,
-        &mut lengths,
-        &mut holds,
-        &mut speeds,
-    );
-    let Loaded::Counts {
-        junctions,
-        intervals,
-        arcs,
-    } = loaded
-    else {
+    let mut town = Town::empty();
+    let loaded = town.load(text);
+    let Ok(counts) = loaded else {
         return load_code(loaded);
     };
-    let routed = route_in_tables(
-        junctions,
-        intervals as usize,
-        arcs as usize,
-        &fences,
-        &tails,
-        &heads,
-        &lengths,
-        &holds,
-        &speeds,
-        source,
-        departure,
-        destination,
-    );
-    let Routed::Arcs { count: _, arrival } = routed else {
+    let network = town.network(counts);
+    let routed = route_in_town(&network, source, departure, destination);
+    let Ok(route) = routed else {
         return route_code(routed);
     };
-    arrival
+    route.arrival
 }

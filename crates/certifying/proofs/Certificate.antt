@@ -5,6 +5,8 @@ use mathlib.Core.Path.{◌≡◌, refl, sym, ap, ◌∙◌}
 use mathlib.Core.List.{List}
 use mathlib.Core.Bool.{Bool, true, false}
 use mathlib.Core.Logic.{◌⊎◌, inl, inr, ⊎_elim, by_cases, ◌↔◌}
+use Rattle.std.specs.Prelude.{Decides}
+use Rattle.std.proofs.lemmas.Bool.Decides.{same_from_decides, Decides-like}
 use native.Mathlib.Decide.{ℕ_discrete, dec_lt}
 use native.Mathlib.Omega.{arith}
 use lib.ListN.{length, get_or, get_or-eq_default}
@@ -19,8 +21,8 @@ use Rattle.model.proofs.Networks.{accepted_sound}
 use Rattle.model.proofs.SentTables.{right_when_tested, right_when_certified}
 use Rattle.dijkstra.specs.Labelable.{Labelable}
 use Rattle.closed_arcs.specs.FromLabels.{TimedLabels}
-use Rattle.certifying.specs.Code.Certifying.{Decides, says_no, Stands, at_source, unreached, reached, AllStand, Lookable, AllKeep}
-use Rattle.certifying.proofs.Deciding.{decided, decides}
+use Rattle.certifying.specs.Code.Certifying.{Stands, at_source, unreached, reached, AllStand, AllKeep}
+use Rattle.certifying.proofs.Deciding.{refuted}
 
 module _ {N : Network} {source departure : ℕ} {labels predecessors : List ℕ} (q : Labelable N source departure labels predecessors) where
   abbrev Standing : Type 0
@@ -37,18 +39,6 @@ module _ {N : Network} {source departure : ℕ} {labels predecessors : List ℕ}
     labels_long = q.labels_long;
     predecessors_long = q.predecessors_long;
   }
-
-  pub lookable : Lookable N.fences N.heads labels predecessors
-  lookable =
-      let accepted = q.taken.accepted in
-      record {
-        some_interval = accepted.some_interval;
-        few_intervals = accepted.intervals_fit;
-        fences_kept = accepted.fences_kept;
-        few_arcs = omega (arith, accepted.heads_long, accepted.arcs_fit);
-        few_junctions = omega (arith, q.labels_long, accepted.junctions_fit);
-        as_many = q.predecessors_long ∙ sym q.labels_long;
-      }
 
   -- ---- From the looks to the certificate
 
@@ -123,12 +113,12 @@ module _ {N : Network} {source departure : ℕ} {labels predecessors : List ℕ}
 
   -- A junction that does not stand is enough for a no.
   pub fallen : (Standing → ⊥) → false ≡ tables_right? (net_of N) source departure labels predecessors
-  fallen falls = decided (says_no λ certified. falls (certified_stands certified)) _ right_certified
+  fallen falls = same_from_decides _ _ (refuted λ certified. falls (certified_stands certified)) right_certified
 
   -- Where all stand the arcs decide.
   module _ (all : Standing) where
-    pub kept_decides : {r : Bool} → Decides Keeping r → r ≡ tables_right? (net_of N) source departure labels predecessors
-    kept_decides d = decided (decides d (looks_certified all) certified_keeps) _ right_certified
+    pub kept_decides : {r : Bool} → Decides r Keeping → r ≡ tables_right? (net_of N) source departure labels predecessors
+    kept_decides d = same_from_decides _ _ (Decides-like _ (looks_certified all) certified_keeps d) right_certified
 
     by_last : (j : ℕ) → (get_or labels j never ≤ last) ⊎ (get_or labels j never ≡ never)
     by_last j = by_cases (dec_lt j (length labels)) (λ inside. go (all j inside)) (λ outside. inr (get_or-eq_default labels never (omega (arith, outside))))
@@ -138,8 +128,8 @@ module _ {N : Network} {source departure : ℕ} {labels predecessors : List ℕ}
         go (unreached other label mark) = inr label
         go (reached other in_time is_arc into) = inl in_time
 
-    pub timed : {intervals : List ℕ} → (length intervals ≡ max_junctions) × Beside N.fences labels intervals → TimedLabels N labels intervals
-    timed (intervals_long, beside) = record {
+    pub timed : {intervals : List ℕ} → length intervals ≡ max_junctions → Beside N.fences labels intervals → TimedLabels N labels intervals
+    timed intervals_long beside = record {
       accepted = q.taken.accepted;
       few_closures = q.taken.closures_kept.at_most;
       labels_long = q.labels_long;

@@ -3,16 +3,14 @@ use Prim.Native.Nat.{ℕ}
 use mathlib.Core.Path.{◌≡◌, refl, sym, ap, ◌∙◌}
 use mathlib.Core.Bool.{Bool, true, false, true≢false}
 use mathlib.Core.List.{List}
-use Rattle.model.specs.Network.{Network, closed_by, network_for, net_of}
-use Rattle.model.specs.Parties.{closures_for}
-use Rattle.model.specs.Rules.{refused, replied}
+use Rattle.model.specs.Network.{Network, network_for, net_of}
+use Rattle.model.specs.Rules.{replied}
 use Rattle.model.specs.SentTables.{tables_right?, TablesRight, Sent}
-use Rattle.model.specs.declared.closure.Closure.{Closure}
 use Rattle.model.proofs.Rules.{replying_refused, replying_replied}
 use Rattle.model.proofs.SentTables.{right_when_tested, right_when_certified, right_labels}
 use Rattle.labelling.specs.Labels.{labels_answer}
 use Rattle.labelling.proofs.LabelRules.{answered, labelable_for, demand_2_of_call, labels_replies_when_labelable}
-use Rattle.certifying.specs.TablesCheck.{tables_answer, TablesRefusedAsLabels, YesExactlyWhenRight, NoExactlyWhenWrong, YesIsLabelsOwn, LabelsTablesHaveYes}
+use Rattle.certifying.specs.TablesCheck.{TablesRefusedAsLabels, YesExactlyWhenRight, NoExactlyWhenWrong, YesIsLabelsOwn, LabelsTablesHaveYes}
 use Rattle.certifying.proofs.Certificate.{sent}
 
 pub tables_refused_as_labels : TablesRefusedAsLabels
@@ -41,15 +39,6 @@ module _ (N : Network) (asker source departure : ℕ) (labels predecessors : Lis
         go : (b : Bool) → (b ≡ true → Right) → b ≡ false
         go true is = absurd (wrong (is refl))
         go false is = refl
-
-  pub ends_refused : {number : ℕ} → refused number ≡ labels_answer N asker source departure labels predecessors →
-      refused number ≡ tables_answer N asker source departure labels predecessors
-  ends_refused e = rw (← e) refl
-
-  -- The certificate, lent the records that stop the asker, has told.
-  pub ends_told : (closures : List Closure) {told : Bool} → closures ≡ closures_for asker N.closures → labels_answer N asker source departure labels predecessors ≡ replied tt →
-      told ≡ tables_right? (net_of (closed_by N closures)) source departure labels predecessors → replied told ≡ tables_answer N asker source departure labels predecessors
-  ends_told closures same e is = rw e (ap replied (rw same at is))
 
 pub yes_exactly_when_right : YesExactlyWhenRight
 yes_exactly_when_right N asker source departure labels predecessors = (

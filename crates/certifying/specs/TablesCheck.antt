@@ -4,16 +4,7 @@ use Rattle.std.specs.Prelude.{ℕ, ◌≡◌, Bool, true, false, List, ◌↔◌
 use Rattle.model.specs.Network.{Network, network_for, net_of}
 use Rattle.model.specs.Rules.{Outcome, refused, replied, replying}
 use Rattle.model.specs.SentTables.{tables_right?, TablesRight}
-use Rattle.refusals.specs.Refusals.{number_of}
 use Rattle.labelling.specs.Labels.{labels_answer, labels_after, predecessors_after}
-use Rattle.certifying.specs.declared.tables.TablesCheck.{TablesCheck}
-use Rattle.certifying.specs.declared.tables.TablesCheck.TheVariants.{Yes, No, Refused}
-
--- The answer's number, or whether it is a yes.
-abbrev pub outcome_of : TablesCheck → Outcome Bool
-outcome_of Yes = replied true
-outcome_of No = replied false
-outcome_of (Refused refusal) = refused (number_of refusal)
 
 -- Labels' own refusal, or whether the tables are right.
 abbrev pub tables_answer : Network → ℕ → ℕ → ℕ → List ℕ → List ℕ → Outcome Bool

@@ -5,20 +5,20 @@ ghost use Rattle.model.specs.Intervals.{FencesKept, interval_of_lem};
 
 use driving::interval::time_of_day;
 
+// `interval < length fences` stays a clause: it is the bound of an index, and each function has a table of its own at hand.
+
 // Back to an interval that starts by the time.
 fn step_back(fences: &[u32], interval: usize, time: u32) -> usize
     requires { interval < length fences.now }
     ensures result_bound { get_or fences.now 0 0 ≡ 0 → get_or fences.now result 0 ≤ time }
     ensures upper_bound { result < length fences.now }
 {
-    let mut k = interval;
-    while 0 < k {
+    for k in (1..interval + 1).rev() {
         if fences[k] <= time {
             return k;
         }
-        k -= 1;
     }
-    k
+    0
 }
 
 // On to the last interval that starts by the time.
@@ -28,16 +28,12 @@ fn step_on(fences: &[u32], interval: usize, time: u32) -> usize
         × (suc result < length fences.now → time < get_or fences.now (suc result) 0) }
     ensures upper_bound { result < length fences.now }
 {
-    let mut k = interval;
-    let mut next = interval + 1;
-    while next < fences.len() {
+    for next in interval + 1..fences.len() {
         if time < fences[next] {
-            return k;
+            return next - 1;
         }
-        k = next;
-        next += 1;
     }
-    k
+    fences.len() - 1
 }
 
 // The interval of a tick, from any other.

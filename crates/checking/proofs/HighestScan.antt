@@ -1,50 +1,49 @@
--- The scan for the highest entry of a table, and the rule that it decides: every entry is within a limit exactly where the highest is.
-use Prim.Native.Nat.{ℕ, suc, ◌+◌, ◌≤◌, ◌<◌, max}
-use mathlib.Core.Path.{◌≡◌, refl, sym, ap, ◌∙◌}
-use mathlib.Core.Bool.{Bool, true, false, not}
-use mathlib.Core.List.{List}
-use mathlib.Core.Logic.{⊎_elim, by_cases}
-use native.Mathlib.Decide.{dec_lt}
+-- The highest entry of a table, and the rule that it decides: every entry is within a limit exactly where the highest is.
+use Prim.Native.Nat.{ℕ, zero, suc, ◌<◌, ◌≤◌}
+use mathlib.Core.Path.{◌≡◌, sym, ap, ◌∙◌}
+use mathlib.Core.Bool.{◌&&◌, and_assoc, and-true}
+use mathlib.Core.List.{List, [], ◌∷◌}
 use native.Mathlib.Omega.{arith}
-use lib.Dec.{leb}
 use lib.ListN.{length, get_or}
-use borrow.Author.Tests.{not-false}
+use lib.Dec.{leb}
+use Rattle.std.specs.List.{fold}
+use Rattle.std.specs.Ordering.{ord_max, nat_cmp}
+use Rattle.std.proofs.lemmas.Bool.Decides.{nat_tests}
 use Rattle.model.specs.Rules.{every}
-use Rattle.model.proofs.Rules.{kept_within, within_kept}
-use Rattle.model.proofs.Tests.{leb_cases}
-use Rattle.checking.specs.Highest.{Highest}
 
-pub record HighestTo (numbers : List ℕ) (i high : ℕ) : Type 0 where
-  pub no_higher : (a : ℕ) → a < i → get_or numbers a 0 ≤ high
-  pub least : (n : ℕ) → 0 < n → ((a : ℕ) → a < length numbers → get_or numbers a 0 < n) → high < n
+abbrev pub highest_of : ℕ → List ℕ → ℕ
+highest_of low numbers = fold (ord_max nat_cmp) low numbers
 
-pub high_starts : (numbers : List ℕ) → HighestTo numbers 0 0
-high_starts numbers = record { no_higher = λ a h. absurd (omega arith); least = λ n some below. some }
+both_within : (limit a b : ℕ) → leb (ord_max nat_cmp a b) limit ≡ (leb a limit && leb b limit)
+both_within limit a b = grind (arith, nat_tests)
 
-pub high_goes_on : {numbers : List ℕ} {i high high' : ℕ} → HighestTo numbers i high → high' ≡ max high (get_or numbers i 0) → i < length numbers →
-    HighestTo numbers (i + 1) high'
-high_goes_on {numbers} {i} {high} h is-max inside = record {
-  no_higher = λ a before.
-      by_cases (dec_lt a i)
-      (λ earlier. omega (arith, h.no_higher a earlier))
-      (λ not-Earlier. let here : a ≡ i = omega arith in rw here (omega arith));
-  least = λ n some below. omega (arith, h.least n some below, below i inside);
-}
+pub highest_within : (limit low : ℕ) (numbers : List ℕ) → leb (highest_of low numbers) limit ≡ (leb low limit && every (λ x. leb x limit) numbers)
+highest_within limit low [] = sym (and-true (leb low limit))
+highest_within limit low (n ∷ ns) =
+    highest_within limit (ord_max nat_cmp low n) ns
+    ∙ ap (λ t. t && every (λ x. leb x limit) ns) (both_within limit low n)
+    ∙ and_assoc (leb low limit) (leb n limit) (every (λ x. leb x limit) ns)
 
-pub high_ends : {numbers : List ℕ} {i high : ℕ} → HighestTo numbers i high → length numbers ≤ i → Highest numbers high
-high_ends h done = record { no_higher = λ a inside. h.no_higher a (omega arith); least = h.least }
+-- No entry is higher, nor the value below which none is taken; and what lies above all of them lies above it.
+left_no_higher : (a b : ℕ) → a ≤ ord_max nat_cmp a b
+left_no_higher a b = grind (arith, nat_tests)
 
-pub highest_decides : {numbers : List ℕ} {high : ℕ} (limit : ℕ) → Highest numbers high → leb high limit ≡ every (λ x. leb x limit) numbers
-highest_decides {numbers} {high} limit h = ⊎_elim within above (leb_cases high limit)
-  where
-    within : (leb high limit ≡ true) × (high ≤ limit) → leb high limit ≡ every (λ x. leb x limit) numbers
-    within w = w.0 ∙ sym (not-false _ (within_kept limit numbers (λ i inside. omega (arith, h.no_higher i inside, w.1))))
+right_no_higher : (a b : ℕ) → b ≤ ord_max nat_cmp a b
+right_no_higher a b = grind (arith, nat_tests)
 
-    above : (leb high limit ≡ false) × (limit < high) → leb high limit ≡ every (λ x. leb x limit) numbers
-    above w = w.0 ∙ go (every (λ x. leb x limit) numbers) refl
-      where
-        go : (kept : Bool) → every (λ x. leb x limit) numbers ≡ kept → false ≡ kept
-        go false e = refl
-        go true e =
-            let all = kept_within limit numbers (ap not e) in
-            absurd (omega (arith, w.1, h.least (suc limit) (omega arith) (λ i inside. omega (arith, all i inside))))
+both_under : (limit a b : ℕ) → a < limit → b < limit → ord_max nat_cmp a b < limit
+both_under limit a b p q = grind (arith, nat_tests)
+
+low_no_higher : (low : ℕ) (numbers : List ℕ) → low ≤ highest_of low numbers
+low_no_higher low [] = omega arith
+low_no_higher low (n ∷ ns) = omega (arith, low_no_higher (ord_max nat_cmp low n) ns, left_no_higher low n)
+
+pub no_higher : (low : ℕ) (numbers : List ℕ) (i : ℕ) → i < length numbers → get_or numbers i 0 ≤ highest_of low numbers
+no_higher low [] i inside = absurd (omega arith)
+no_higher low (n ∷ ns) zero inside = omega (arith, low_no_higher (ord_max nat_cmp low n) ns, right_no_higher low n)
+no_higher low (n ∷ ns) (suc i) inside = no_higher (ord_max nat_cmp low n) ns i (omega arith)
+
+pub least : (limit low : ℕ) (numbers : List ℕ) → low < limit → ((i : ℕ) → i < length numbers → get_or numbers i 0 < limit) → highest_of low numbers < limit
+least limit low [] some below = some
+least limit low (n ∷ ns) some below =
+    least limit (ord_max nat_cmp low n) ns (both_under limit low n some (below 0 (omega arith))) (λ i inside. below (suc i) (omega arith))

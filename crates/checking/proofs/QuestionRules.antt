@@ -1,6 +1,6 @@
 -- The rules that Labels and Route ask first, and their plain statement.
 use Prim.Native.Nat.{ℕ}
-use mathlib.Core.Path.{◌≡◌, refl, sym, ap, ◌∙◌}
+use mathlib.Core.Path.{◌≡◌, refl, sym, ap}
 use mathlib.Core.Bool.{not}
 use mathlib.Core.List.{List, []}
 use mathlib.Core.Logic.{inl}
@@ -8,6 +8,10 @@ use native.Mathlib.Omega.{arith}
 use lib.Dec.{ltb}
 use lib.ListN.{length}
 use borrow.Author.Tests.{not-false, ltb-true, ltb-false, lt-ltb, le-ltb}
+use Rattle.std.proofs.lemmas.Bool.Decides.{nat_tests}
+use Rattle.std.proofs.lemmas.List.{length-map}
+use Rattle.std.proofs.lemmas.List.Folds.{list_all-map}
+use Rattle.std.proofs.lemmas.Result.{err_from_is_err_and}
 use Rattle.model.specs.Ticks.{day}
 use Rattle.model.specs.Closures.{max_closures, ClosuresKept}
 use Rattle.model.specs.declared.closure.Closure.{Closure}
@@ -15,37 +19,34 @@ use Rattle.model.specs.Network.{Network, closed_by, network_for, arcs}
 use Rattle.model.specs.Network as Plain
 use Rattle.model.specs.NetworkRules.{network_rules, network_check_lem}
 use Rattle.model.specs.Parties.{brigade, depot, KnownAsker, asker_keeps}
-use Rattle.model.specs.Rules.{AllKept, refused, first_broken}
+use Rattle.model.specs.Rules.{AllKept, refused, replied, first_broken}
 use Rattle.model.proofs.Closures.{closures_kept, kept_closures, kept_parties}
 use Rattle.model.proofs.NetworkRules.{kept_accepted, accepted_kept}
 use Rattle.model.proofs.Parties.{kept_for}
 use Rattle.model.proofs.Rules.{replies_kept, refused_before, kept_before, kept_append, append_kept}
 use Rattle.model.proofs.Tests.{one_of, is_one_of}
-use Rattle.checking.specs.NetworkCheck.{outcome_of}
 use Rattle.checking.specs.ClosedNetwork.{closure_rules, closed_network_rules, closed_network_check_lem, ClosuresPassWhenKept}
 use Rattle.checking.specs.Question.{start_rules, question_rules, question_check_lem, Taken}
-use Rattle.checking.specs.declared.network.NetworkCheck.{NetworkCheck}
-use Rattle.checking.specs.declared.network.NetworkCheck.TheVariants.{Accepted}
 
 -- Network check is asked of the network without its closures: its rules do not read them.
-pub alone_keeps : (N : Network) {answer : NetworkCheck} → outcome_of answer ≡ network_check_lem (closed_by N []) → answer ≡ Accepted → AllKept (network_rules N)
+pub alone_keeps : (N : Network) → replied tt ≡ network_check_lem (closed_by N []) → AllKept (network_rules N)
 unfolding network_check_lem
-alone_keeps N is told = replies_kept (network_rules N) tt tt (sym is ∙ ap outcome_of told)
+alone_keeps N is = replies_kept (network_rules N) tt tt (sym is)
 
 pub alone_refuses : (N : Network) (asker number : ℕ) → refused number ≡ network_check_lem (closed_by N []) → refused number ≡ closed_network_check_lem N asker
 unfolding network_check_lem closed_network_check_lem
 alone_refuses N asker number e = sym (refused_before (network_rules N) (closure_rules N asker) tt tt number (sym e))
 
 -- Of a network that is accepted without its closures, the rules on these decide.
-pub past_network : (N : Network) (asker : ℕ) {answer : NetworkCheck} → outcome_of answer ≡ network_check_lem (closed_by N []) → answer ≡ Accepted →
+pub past_network : (N : Network) (asker : ℕ) → replied tt ≡ network_check_lem (closed_by N []) →
     closed_network_check_lem N asker ≡ first_broken (closure_rules N asker) tt
 unfolding closed_network_check_lem
-past_network N asker is told = kept_before (network_rules N) (closure_rules N asker) tt (alone_keeps N is told)
+past_network N asker is = kept_before (network_rules N) (closure_rules N asker) tt (alone_keeps N is)
 
 -- A network that the check accepts with its closures keeps their rules, which the rules of other operations follow.
-pub network_keeps : (N : Network) (asker : ℕ) {answer : NetworkCheck} → outcome_of answer ≡ closed_network_check_lem N asker → answer ≡ Accepted → AllKept (closed_network_rules N asker)
+pub network_keeps : (N : Network) (asker : ℕ) → replied tt ≡ closed_network_check_lem N asker → AllKept (closed_network_rules N asker)
 unfolding closed_network_check_lem
-network_keeps N asker is told = replies_kept (closed_network_rules N asker) tt tt (sym is ∙ ap outcome_of told)
+network_keeps N asker is = replies_kept (closed_network_rules N asker) tt tt (sym is)
 
 pub closures_pass_when_kept : ClosuresPassWhenKept
 closures_pass_when_kept N asker = (forward, back)
@@ -85,10 +86,10 @@ pub open_kept : (N : Network) → N.closures ≡ [] → Plain.Accepted N → All
 open_kept N none accepted = closed_kept N brigade accepted (no_closures_keep none) (inl refl)
 
 module _ (N : Network) (asker source departure : ℕ) where
-  pub past_closed : {answer : NetworkCheck} → outcome_of answer ≡ closed_network_check_lem N asker → answer ≡ Accepted →
+  pub past_closed : replied tt ≡ closed_network_check_lem N asker →
       question_check_lem N asker source departure ≡ first_broken (start_rules N source departure) tt
   unfolding question_check_lem
-  past_closed is told = kept_before (closed_network_rules N asker) (start_rules N source departure) tt (network_keeps N asker is told)
+  past_closed is = kept_before (closed_network_rules N asker) (start_rules N source departure) tt (network_keeps N asker is)
 
   pub network_refuses : (number : ℕ) → refused number ≡ closed_network_check_lem N asker → refused number ≡ question_check_lem N asker source departure
   unfolding closed_network_check_lem question_check_lem
@@ -123,3 +124,9 @@ taken_for asker t = record {
   source_below = t.source_below;
   departure_below = t.departure_below;
 }
+
+-- ---- What the checks' goals need: after the network's own rules, and after those of the network with its closures
+
+pub ruleset past_network_steps = (past_network, nat_tests, list_all-map, length-map)
+
+pub ruleset past_closed_steps = (network_refuses, past_closed, err_from_is_err_and, nat_tests)

@@ -1,5 +1,3 @@
 pub mod ClosedNetwork
-pub mod Highest
-pub mod NetworkCheck
 pub mod Question
 pub mod Code

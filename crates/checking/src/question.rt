@@ -1,39 +1,31 @@
 // The rules that Labels, Passes and Route ask first: the network's own, its closures' and the asker's, and those on the source and the departure.
 ghost use Rattle.std.specs.Prelude.{◌≡◌};
-ghost use Rattle.model.specs.Lent.{lent_network, lent_closures};
-ghost use Rattle.checking.specs.NetworkCheck.{outcome_of};
+ghost use Rattle.model.specs.Closures.{closures_of};
+ghost use Rattle.model.specs.Lent.{lent_network};
+ghost use Rattle.refusals.specs.Answers.{outcome_of};
 ghost use Rattle.checking.specs.Question.{question_check_lem};
 
 use crate::closure::closed_network_check;
-use crate::network::NetworkCheck;
+use model::network::Network;
 use model::tick::Tick;
 use refusals::refusal::Refusal;
 
+#[tactic(auto, unfolding(model::specs::Rules::first_broken), using(crate::proofs::QuestionRules::past_closed_steps))]
 pub fn question_check(
-    junctions: u32,
-    fences: &[u32],
-    tails: &[u16],
-    heads: &[u16],
-    lengths: &[u32],
-    holds: &[u16],
-    speeds: &[u8],
+    network: &Network,
     closures: &[[u32; 4]],
     asker: u32,
     source: u32,
     tick: u32,
-) -> NetworkCheck
-    ensures { outcome_of result ≡ question_check_lem (lent_network junctions fences tails heads lengths holds speeds (lent_closures closures)) asker source tick }
+) -> Result<(), Refusal>
+    ensures { outcome_of result ≡ question_check_lem (lent_network network.now (closures_of closures.now)) asker source tick }
 {
-    if let NetworkCheck::Refused(refusal) = closed_network_check(
-        junctions, fences, tails, heads, lengths, holds, speeds, closures, asker,
-    ) {
-        return NetworkCheck::Refused(refusal);
-    }
-    if junctions <= source {
-        return NetworkCheck::Refused(Refusal::Source);
+    closed_network_check(network, closures, asker)?;
+    if network.junctions <= source {
+        return Err(Refusal::Source);
     }
     if Tick::DAY <= tick {
-        return NetworkCheck::Refused(Refusal::Departure);
+        return Err(Refusal::Departure);
     }
-    NetworkCheck::Accepted
+    Ok(())
 }

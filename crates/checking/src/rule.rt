@@ -1,8 +1,8 @@
 // The tests of the rules that an arc's tables share with a network's. Each is the definition's own test, of the whole table.
-ghost use Rattle.std.specs.Prelude.{◌≡◌, ◌&&◌, leb, ltb, drop};
+ghost use Rattle.std.specs.Prelude.{◌≡◌, ◌&&◌, leb, ltb};
 ghost use Rattle.model.specs.Rules.{every, rise_from, count_keeps, fences_keep_lem, length_keeps_lem, speed_keeps};
 
-use crate::highest::highest_u8;
+use crate::highest::highest;
 use model::limit::{MAX_INTERVALS, MAX_LENGTH, MAX_SPEED};
 use model::tick::Tick;
 
@@ -19,37 +19,29 @@ pub fn interval_count_keeps(fences: &[u32]) -> bool
     from_1_to(MAX_INTERVALS, fences.len())
 }
 
-// Each fence after the first is greater than the one before and lies below the day, where the first is 0.
-fn fences_rise(fences: &[u32]) -> bool
-    ensures { result ≡ rise_from 0 (drop 1 fences.now) }
+// Each fence is greater than the one before and lies below the day.
+#[tactic(auto, using(crate::proofs::Scan::rise_steps))]
+fn fences_rise(mut before: u32, fences: &[u32]) -> bool
+    ensures { result ≡ rise_from before fences.now }
 {
-    let mut before = 0;
-    let mut i = 1;
-    while i < fences.len() {
-        let fence = fences[i];
-        if fence <= before {
+    for fence in fences {
+        if *fence <= before || Tick::DAY <= *fence {
             return false;
         }
-        if Tick::DAY <= fence {
-            return false;
-        }
-        before = fence;
-        i += 1;
+        before = *fence;
     }
     true
 }
 
 // The first fence is 0, and the others rise from there.
+#[tactic(auto, using(crate::proofs::Scan::first_steps))]
 pub fn fences_keep(fences: &[u32]) -> bool
     ensures { result ≡ fences_keep_lem fences.now }
 {
-    if fences.len() == 0 {
-        return true;
+    match fences {
+        [] => true,
+        [first, others @ ..] => *first == 0 && fences_rise(*first, others),
     }
-    if fences[0] != 0 {
-        return false;
-    }
-    fences_rise(fences)
 }
 
 pub fn length_keeps(metres: u32) -> bool
@@ -61,19 +53,12 @@ pub fn length_keeps(metres: u32) -> bool
 pub fn lengths_keep(lengths: &[u32]) -> bool
     ensures { result ≡ every length_keeps_lem lengths.now }
 {
-    let mut a = 0;
-    while a < lengths.len() {
-        let metres = lengths[a];
-        if !length_keeps(metres) {
-            return false;
-        }
-        a += 1;
-    }
-    true
+    lengths.iter().all(|metres| length_keeps(*metres))
 }
 
+#[tactic(auto, using(crate::proofs::HighestScan::highest_within))]
 pub fn speeds_keep(speeds: &[u8]) -> bool
     ensures { result ≡ every speed_keeps speeds.now }
 {
-    highest_u8(speeds) <= MAX_SPEED
+    highest(0, speeds) <= MAX_SPEED
 }

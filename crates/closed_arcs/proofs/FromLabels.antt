@@ -2,13 +2,12 @@
 use Prim.Native.Nat.{ℕ, ◌*◌, ◌≤◌, ◌<◌}
 use mathlib.Core.Path.{◌≡◌, sym, ap, ◌∙◌}
 use mathlib.Core.List.{List}
-use mathlib.Core.Logic.{◌⊎◌, ⊎_elim}
-use mathlib.Core.Option.{Option, none, some}
+use mathlib.Core.Logic.{⊎_elim}
+use Rattle.std.specs.Prelude.{Option, None, Some}
 use native.Mathlib.Nat.{mul-le-mul}
 use native.Mathlib.Omega.{arith}
 use lib.ListN.{length, get_or}
 use Rattle.model.specs.Ticks.{last, never}
-use Rattle.model.specs.Closures.{max_closures, closures_of, with_closures}
 use Rattle.model.specs.Limits.{max_junctions, max_arcs, max_intervals}
 use Rattle.model.specs.Intervals.{interval_of_lem, tick_and_interval?}
 use Rattle.model.specs.Network.{Network, arcs, intervals, roads_of, speeds_of, drive_of}
@@ -17,11 +16,9 @@ use Rattle.model.proofs.Networks.{accepted_sound, drive_by_last}
 use Rattle.model.proofs.Walks.{drive_never}
 use Rattle.model.proofs.WithInterval.{arrived_at_law, arrived_never}
 use Rattle.driving.specs.ArcKept.{ArcKept}
-use Rattle.closed_arcs.specs.Arcs.{HasArc}
+use Rattle.closed_arcs.specs.Arcs.{HasArc, ArrivesOn}
 use Rattle.closed_arcs.specs.FromLabels.{TimedLabels, OnArc, arrives, too_late, not_driven}
-use Rattle.closed_arcs.specs.Marks.{end_of, mark_of, Marked}
 use Rattle.closed_arcs.proofs.Arcs.{arc_inside, arc_kept}
-use Rattle.closed_arcs.proofs.Marks.{part_of, plan, arrival_by, part_drive, open_drive}
 
 -- Where an arc's entries lie.
 pub record Placed (N : Network) (labels : List ℕ) (a : ℕ) : Type 0 where
@@ -69,7 +66,7 @@ module _ {N : Network} {labels intervals' : List ℕ} (p : TimedLabels N labels 
   head_label = get_or-inside labels head 0 never placed.head_inside
 
   -- A head whose label is no later than the tail's.
-  pub none_lowered : get_or labels head 0 ≤ get_or labels tail 0 → OnArc N labels a none
+  pub none_lowered : get_or labels head 0 ≤ get_or labels tail 0 → OnArc N labels a None
   none_lowered no_later =
       let sound = accepted_sound N p.accepted in
       ⊎_elim
@@ -86,24 +83,13 @@ module _ {N : Network} {labels intervals' : List ℕ} (p : TimedLabels N labels 
       arc_kept N p.accepted (get_or labels tail 0) (get_or intervals' tail 0) a (omega (arith, tail_label)) (in_interval ∙ ap (interval_of_lem N.fences) (sym tail_label)) is_arc
 
   on_arc : (arrived : Option (ℕ × ℕ)) → arrived ≡ tick_and_interval? N.fences (drive_of (roads_of N) a (get_or labels tail 0)) → OnArc N labels a arrived
-  on_arc (some (tick, interval)) is =
+  on_arc (Some (tick, interval)) is =
       let (same, in_interval, by_last) = arrived_at_law N.fences tick interval _ is in
       arrives (same ∙ ap (drive_of (roads_of N) a) tail_label) (omega arith) (in_interval ∙ ap (interval_of_lem N.fences) (sym same))
-  on_arc none is =
+  on_arc None is =
       not_driven (ap (drive_of (roads_of N) a) (sym tail_label) ∙ arrived_never N.fences _ (drive_by_last (roads_of N) a (get_or labels tail 0)) is)
 
-  -- The same of what the engines tell: lent the arc's part of the closures, and lent none where there are none in it.
-  module _ (rows : List (List ℕ)) {marks : List (List ℕ)} (marked : Marked (closures_of rows) marks) (are : N.closures ≡ closures_of rows) where
-    few : length (closures_of rows) ≤ max_closures
-    few = omega (arith, p.few_closures, ap length are)
-
-    pub on_closed_arc : {arrived : Option (ℕ × ℕ)} →
-        arrived ≡ tick_and_interval? N.fences (arrival_by (roads_of N) a (with_closures (closures_of (part_of rows marks a)) a (plan (roads_of N) a)) (get_or labels tail 0)) →
-        OnArc N labels a arrived
-    on_closed_arc is =
-        on_arc _ (is ∙ ap (tick_and_interval? N.fences) (part_drive (roads_of N) rows marked few a placed.has_arc.few_arcs are (get_or labels tail 0)))
-
-    pub on_open_arc : (end_of (mark_of marks a) ≡ 0) ⊎ (length rows ≡ 0) → {arrived : Option (ℕ × ℕ)} →
-        arrived ≡ tick_and_interval? N.fences (arrival_by (roads_of N) a (plan (roads_of N) a) (get_or labels tail 0)) → OnArc N labels a arrived
-    on_open_arc no_record is =
-        on_arc _ (is ∙ ap (tick_and_interval? N.fences) (open_drive (roads_of N) rows marked few a placed.has_arc.few_arcs are no_record (get_or labels tail 0)))
+  -- What driving it from there comes to: one that is left before its head's label.
+  pub on_driven_arc : get_or labels tail 0 < get_or labels head 0 → {arrived : Option (ℕ × ℕ)} →
+      ArrivesOn (roads_of N) a (get_or labels tail 0) (get_or intervals' tail 0) arrived → OnArc N labels a arrived
+  on_driven_arc sooner driven = on_arc _ (driven p.few_closures (tail_kept sooner))

@@ -2,14 +2,11 @@
 -- there are none in it its plan alone decides.
 use Prim.Native.Nat.{ℕ, zero, suc, ◌+◌, ◌-◌, ◌<◌, ◌≤◌}
 use mathlib.Core.Path.{◌≡◌, refl, sym, ap, ◌∙◌}
-use mathlib.Core.Bool.{Bool, true, false, cond}
-use mathlib.Core.List.{List, [], ◌∷◌}
-use mathlib.Core.Logic.{◌⊎◌, ⊎_elim, by_cases, ◌↔◌}
-use native.Mathlib.Decide.{ℕ_discrete}
+use mathlib.Core.List.{List, []}
+use mathlib.Core.Logic.{◌⊎◌, ⊎_elim, ◌↔◌}
 use native.Mathlib.Omega.{arith}
-use lib.Dec.{eqb}
-use lib.ListN.{length, get_or, set, replicate, take, drop, length-map, length-set, length-take, length-drop, length-replicate, get_or-map}
-use lib.Seq.{get_or-set_same, get_or-set_other, get_or-take, get_or-drop}
+use lib.ListN.{length, get_or, replicate, take, drop, length-map, length-take, length-drop, length-replicate, get_or-map}
+use lib.Seq.{get_or-take, get_or-drop}
 use Rattle.model.specs.Closures.{max_closures, no_closure, closure_of, closures_of, closed?, Closed, with_closures}
 use Rattle.model.specs.Limits.{max_arcs}
 use Rattle.model.specs.Flow.{spans_of}
@@ -20,8 +17,7 @@ use Rattle.model.specs.declared.closure.Closure.{Closure}
 use Rattle.model.proofs.Closures.{closed_alike}
 use Rattle.model.proofs.Entries.{get_or-all}
 use Rattle.model.proofs.Holds.{same_arrival}
-use Rattle.model.proofs.Tests.{eqb_cases}
-use Rattle.closed_arcs.specs.Marks.{start_of, end_of, mark_of, no_mark, unmarked, extended, Marked}
+use Rattle.closed_arcs.specs.Marks.{start_of, end_of, mark_of, no_mark, unmarked, Marked}
 
 -- the arc of row k
 abbrev arc_at : List (List ℕ) → ℕ → ℕ
@@ -52,70 +48,6 @@ none_marked rows marks none = rw none record {
   in_list = omega arith;
   in_bytes = omega arith;
 }
-
--- ---- A mark more
-
-module _ (mark : List ℕ) (k : ℕ) where
-  extended_end : end_of (extended mark k) ≡ k + 1
-  extended_end = go (eqb (end_of mark) 0)
-    where
-      go : (b : Bool) → end_of (cond b (k ∷ (k + 1) ∷ []) (start_of mark ∷ (k + 1) ∷ [])) ≡ k + 1
-      go true = refl
-      go false = refl
-
-  extended_start : start_of mark ≤ end_of mark → end_of mark ≤ k → start_of (extended mark k) ≤ k
-  extended_start in_order so_far =
-      ⊎_elim (λ w. rw w.0 (omega arith)) (λ w. rw w.0 (omega arith)) (eqb_cases (end_of mark) 0)
-
-  extended_keeps : (i : ℕ) → start_of mark ≤ i → i < end_of mark → start_of (extended mark k) ≤ i
-  extended_keeps i from to =
-      ⊎_elim (λ w. absurd (omega (arith, w.1))) (λ w. rw w.0 from) (eqb_cases (end_of mark) 0)
-
-module _ (rows : List (List ℕ)) (k : ℕ) (marks : List (List ℕ)) (before : MarkedSoFar rows k marks) (here : k < length rows) (fits : k < max_closures) where
-  -- Its arc's part goes on up to it, and the others stay.
-  module _ (known : arc_at rows k < max_arcs) where
-    abbrev mark : List ℕ
-    mark = extended (mark_of marks (arc_at rows k)) k
-
-    same_arc : mark_of (set marks (arc_at rows k) mark) (arc_at rows k) ≡ mark
-    same_arc = get_or-set_same marks (arc_at rows k) mark [] (omega (arith, before.long))
-
-    other_arc : (a : ℕ) → (a ≡ arc_at rows k → ⊥) → mark_of (set marks (arc_at rows k) mark) a ≡ mark_of marks a
-    other_arc a other = get_or-set_other marks (arc_at rows k) a mark [] other
-
-    its_start : start_of mark ≤ k
-    its_start = extended_start (mark_of marks (arc_at rows k)) k (before.in_order (arc_at rows k)) (before.so_far (arc_at rows k))
-
-    earlier : (i : ℕ) → i < k + 1 → (i ≡ k → ⊥) → i < k
-    earlier i h other = omega (arith, other)
-
-    pub one_marked : MarkedSoFar rows (k + 1) (set marks (arc_at rows k) mark)
-    one_marked = record {
-      long = length-set marks (arc_at rows k) mark ∙ before.long;
-      in_order = λ a. by_cases (ℕ_discrete a (arc_at rows k))
-          (λ same. rw (same, same_arc) (omega (arith, its_start, extended_end (mark_of marks (arc_at rows k)) k))) (λ other. rw (other_arc a other) (before.in_order a));
-      so_far = λ a. by_cases (ℕ_discrete a (arc_at rows k))
-          (λ same. rw (same, same_arc) (omega (arith, extended_end (mark_of marks (arc_at rows k)) k))) (λ other. rw (other_arc a other) (omega (arith, before.so_far a)));
-      in_part = λ i h few. by_cases (ℕ_discrete (arc_at rows i) (arc_at rows k))
-          (λ same. rw (same, same_arc) (by_cases (ℕ_discrete i k)
-          (λ last. (omega (arith, its_start), omega (arith, extended_end (mark_of marks (arc_at rows k)) k)))
-          (λ first. let (from, to) = rw same at (before.in_part i (earlier i h first) few) in
-          (extended_keeps (mark_of marks (arc_at rows k)) k i from to, omega (arith, extended_end (mark_of marks (arc_at rows k)) k)))))
-          (λ other. rw (other_arc (arc_at rows i) other) (before.in_part i (earlier i h (λ last. other (ap (arc_at rows) last))) few));
-      in_list = omega arith;
-      in_bytes = omega arith;
-    }
-
-  -- An arc that no network has needs no mark.
-  pub none_known : max_arcs ≤ arc_at rows k → MarkedSoFar rows (k + 1) marks
-  none_known unknown = record {
-    long = before.long;
-    in_order = before.in_order;
-    so_far = λ a. omega (arith, before.so_far a);
-    in_part = λ i h few. by_cases (ℕ_discrete i k) (λ last. absurd (omega (arith, unknown, few, ap (arc_at rows) last))) (λ first. before.in_part i (omega (arith, first)) few);
-    in_list = omega arith;
-    in_bytes = omega arith;
-  }
 
 pub all_marked : (rows : List (List ℕ)) (k : ℕ) (marks : List (List ℕ)) → MarkedSoFar rows k marks → (length rows ≤ max_closures → length rows ≤ k) → Marked (closures_of rows) marks
 all_marked rows k marks so_far all =

@@ -1,6 +1,5 @@
 -- An arc of the roads, as an engine drives it.
-use Rattle.std.specs.Prelude.{ℕ, ◌+◌, ◌*◌, ◌≤◌, ◌<◌, ◌≡◌, length, get_or}
-use Rattle.std.proofs.Math.Option.{Option}
+use Rattle.std.specs.Prelude.{ℕ, ◌+◌, ◌*◌, ◌≤◌, ◌<◌, ◌≡◌, length, get_or, Option}
 use Rattle.model.specs.Closures.{max_closures}
 use Rattle.model.specs.Limits.{max_arcs, max_intervals}
 use Rattle.model.specs.Intervals.{tick_and_interval?}

@@ -1,6 +1,5 @@
 -- An arc that is left at its tail's label.
-use Rattle.std.specs.Prelude.{ℕ, ◌≤◌, ◌<◌, ◌≡◌, List, ◌⊎◌, length, get_or}
-use Rattle.std.proofs.Math.Option.{Option, none, some}
+use Rattle.std.specs.Prelude.{ℕ, ◌≤◌, ◌<◌, ◌≡◌, List, ◌⊎◌, length, get_or, Option, None, Some}
 use Rattle.model.specs.Ticks.{last, never}
 use Rattle.model.specs.Closures.{max_closures}
 use Rattle.model.specs.Limits.{max_junctions}
@@ -22,6 +21,6 @@ offered N labels a = drive_of (roads_of N) a (get_or labels (get_or N.tails a 0)
 
 -- What driving it comes to: the arrival with its interval; or none, where that is after the head's label, or never.
 pub data OnArc (N : Network) (labels : List ℕ) (a : ℕ) : Option (ℕ × ℕ) → Type 0 where
-  arrives : {tick interval : ℕ} → tick ≡ offered N labels a → tick ≤ last → interval ≡ interval_of_lem N.fences tick → OnArc N labels a (some (tick, interval))
-  too_late : get_or labels (get_or N.heads a 0) never < offered N labels a → OnArc N labels a none
-  not_driven : offered N labels a ≡ never → OnArc N labels a none
+  arrives : {tick interval : ℕ} → tick ≡ offered N labels a → tick ≤ last → interval ≡ interval_of_lem N.fences tick → OnArc N labels a (Some (tick, interval))
+  too_late : get_or labels (get_or N.heads a 0) never < offered N labels a → OnArc N labels a None
+  not_driven : offered N labels a ≡ never → OnArc N labels a None

@@ -1,3 +1,4 @@
 pub mod Arcs
 pub mod FromLabels
 pub mod Marks
+pub mod Roads

@@ -3,3 +3,4 @@
 #![tactic(auto)]
 
 pub mod mark;
+pub mod roads;

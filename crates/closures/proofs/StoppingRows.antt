@@ -1,10 +1,10 @@
 -- The rows that stop the asker, by a scan from the front: of the first rows those that do have been written, one after another.
-use Prim.Native.Nat.{ℕ, ◌+◌, ◌≤◌, ◌<◌}
+use Prim.Native.Nat.{ℕ, ◌+◌, ◌<◌}
 use mathlib.Core.Path.{◌≡◌, sym, ap, ◌∙◌}
 use mathlib.Core.Bool.{true, false, cond}
 use mathlib.Core.List.{List, [], ◌∷◌, ◌++◌, map-append, append-nil}
 use lib.ListN.{take, length, get_or, set}
-use lib.Seq.{take-suc, take_all}
+use lib.Seq.{take-suc}
 use native.Mathlib.Numerals.{add-one}
 use Rattle.model.specs.Closures.{closure_of, closures_of}
 use Rattle.model.specs.Parties.{stops?, closures_for}
@@ -34,8 +34,3 @@ module _ (asker : ℕ) (table : List (List ℕ)) where
     pub row_passed : (rows : List (List ℕ)) (count : ℕ) → stops? asker (closure_of next) ≡ false → closures_of (take count rows) ≡ kept_of k →
         closures_of (take count rows) ≡ kept_of (k + 1)
     row_passed rows count stops so_far = rw (kept_more, stops) (so_far ∙ sym (append-nil (kept_of k)))
-
-  -- Once all rows were looked at, they are those of the whole list.
-  pub rows_all : (k : ℕ) → length table ≤ k → (rows : List (List ℕ)) (count : ℕ) → closures_of (take count rows) ≡ kept_of k →
-      closures_of (take count rows) ≡ closures_for asker (closures_of table)
-  rows_all k whole rows count so_far = so_far ∙ rw (take_all k table whole)

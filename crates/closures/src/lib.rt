@@ -1,7 +1,6 @@
-// The list of closures that comes with a question: read out of the slice that a caller lends, written into a flat table, and of its rows those that
-// stop the asker. A function that takes the slice reads it and hands all else on, so that the work itself stands in functions that take plain tables.
+// The list of closures that comes with a question: read out of the slice that a caller lends into a flat table, and of its rows those that stop the
+// asker. The work itself stands in functions that take the flat table.
 #![tactic(auto)]
 
-pub mod records;
 pub mod rows;
 pub mod stopping;

@@ -67,7 +67,7 @@ line_tells (comment_line all) = refl
 
 said_unheld : (says : Line) (say : List Line) →
     every (λ a. eqb a.hold 0) (town_said (says ∷ say)).arcs ≡ (unheld_said says && every (λ a. eqb a.hold 0) (town_said say).arcs)
-unfolding town_said every
+unfolding town_said
 said_unheld (TN junctions intervals) say = refl
 said_unheld (FN fences) say = refl
 said_unheld (JN named) say = refl
@@ -75,7 +75,7 @@ said_unheld (AR arc) say = refl
 said_unheld CM say = refl
 
 lines_tell : {lines : List (List ℕ)} {say : List Line} → ReadsAll true lines say → every loses_none lines ≡ every (λ a. eqb a.hold 0) (town_said say).arcs
-unfolding town_said every
+unfolding town_said
 lines_tell no_lines = refl
 lines_tell (reads_line {says = says} {say = say} short reads all) = rw (line_tells reads, lines_tell all) (sym (said_unheld says say))
 

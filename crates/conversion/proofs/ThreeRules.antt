@@ -77,14 +77,14 @@ wanted_form true = refl
 wanted_form false = refl
 
 every_unheld : (arcs : List Arc) → every (λ a. eqb a.hold 0) arcs ≡ true → Each (λ a. a.hold ≡ 0) arcs
-unfolding every Each
+unfolding Each
 every_unheld [] e = tt
 every_unheld (arc ∷ arcs) e =
     let parts = true_both (eqb arc.hold 0) (every (λ a. eqb a.hold 0) arcs) e in
     (eqb-true arc.hold 0 parts.0, every_unheld arcs parts.1)
 
 unheld_every : (arcs : List Arc) → Each (λ a. a.hold ≡ 0) arcs → every (λ a. eqb a.hold 0) arcs ≡ true
-unfolding every Each
+unfolding Each
 unheld_every [] each = refl
 unheld_every (arc ∷ arcs) each = both_true (eq-eqb arc.hold 0 each.0) (unheld_every arcs each.1)
 

@@ -69,15 +69,7 @@ module _ (wanted : Bool) (text output : List ℕ) where
   abbrev Ends : Reading ℕ → List ℕ → Type 0
   Ends answer after = (answer ≡ convert_answer wanted text output) × (after ≡ output_after wanted text output)
 
-  pub faulty : {number line : ℕ} → refused_at number line ≡ first_fault text → Ends (refused_at number line) output
-  unfolding convert_answer output_after
-  faulty e = (rw (← e), rw (← e))
-
   module _ {p : Progress} (found : Faultless text p) where
-    pub already : is_form_lem wanted p.held ≡ true → Ends (refused_at 33 0) output
-    unfolding convert_answer output_after first_broken
-    already is = (rw (← found.read, is), rw (← found.read, is))
-
     module _ (other : is_form_lem wanted p.held ≡ false) where
       pub hold_is_lost : loses_hold_lem wanted text ≡ true → Ends (refused_at 34 0) output
       unfolding convert_answer output_after first_broken

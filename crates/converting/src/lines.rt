@@ -1,80 +1,76 @@
 // The lines of a text, converted one by one and put into the output.
 ghost use Rattle.std.specs.Prelude.{◌≡◌, ◌++◌, ◌≤◌, length, drop};
-ghost use Rattle.townfile.specs.Lines.{first_two};
+ghost use Rattle.formatting.specs.Output.{Puts};
 ghost use Rattle.formatting.specs.Putting.{PutIfRoom};
 ghost use Rattle.conversion.specs.Conversion.{to_new_lem, to_old_lem, converted_line, converted};
 ghost use Rattle.converting.specs.Code.Lines.{InLines};
 
-use crate::line::line_at;
-use formatting::put::{put_byte, put_text};
+use crate::line::{Line, line_at};
+use formatting::output::Output;
 use townfile::mark::{ARC, HELD_TOWN, LINE_FEED, TOWN};
 
 // The line with other letters for its mark.
-fn put_marked(letters: &[u8], line: &[u8], output: &mut [u8], at: usize) -> usize
+fn put_marked(letters: &[u8], line: &[u8], output: &mut Output)
     requires { 2 ≤ length line.now }
-    ensures { PutIfRoom (letters.now ++ drop 2 line.now) at output.old output.new result }
+    ensures { Puts (letters.now ++ drop 2 line.now) output.old output.new }
 {
-    let behind = put_text(output, at, letters);
-    put_text(output, behind, &line[2..])
+    output.put_text(letters);
+    output.put_text(&line[2..]);
 }
 
 // `TN` becomes `TW`, and an AR line gets a space and 0 at its end.
 #[tactic(auto, using(crate::proofs::LineMark::mark_long))]
-fn put_new(mark: u16, line: &[u8], output: &mut [u8], at: usize) -> usize
-    requires { mark ≡ first_two line.now }
-    ensures { PutIfRoom (to_new_lem line.now) at output.old output.new result }
+fn put_new(line: &Line, output: &mut Output)
+    ensures { Puts (to_new_lem line.now.bytes.now) output.old output.new }
 {
-    match mark {
-        TOWN => put_marked(b"TW", line, output, at),
+    match line.mark {
+        TOWN => put_marked(b"TW", line.bytes, output),
         ARC => {
-            let end = put_text(output, at, line);
-            put_text(output, end, b" 0")
+            output.put_text(line.bytes);
+            output.put_text(b" 0");
         }
-        _ => put_text(output, at, line),
+        _ => output.put_text(line.bytes),
     }
 }
 
 // `TW` becomes `TN`, and an AR line loses its hold of 0 with its space.
 #[tactic(auto, using(crate::proofs::LineMark::mark_long))]
-fn put_old(mark: u16, line: &[u8], output: &mut [u8], at: usize) -> usize
-    requires { mark ≡ first_two line.now }
-    ensures { PutIfRoom (to_old_lem line.now) at output.old output.new result }
+fn put_old(line: &Line, output: &mut Output)
+    ensures { Puts (to_old_lem line.now.bytes.now) output.old output.new }
 {
-    match mark {
-        HELD_TOWN => put_marked(b"TN", line, output, at),
+    match line.mark {
+        HELD_TOWN => put_marked(b"TN", line.bytes, output),
         ARC => {
-            let hold = line.len() - 2;
-            put_text(output, at, &line[..hold])
+            let hold = line.bytes.len() - 2;
+            output.put_text(&line.bytes[..hold]);
         }
-        _ => put_text(output, at, line),
+        _ => output.put_text(line.bytes),
     }
 }
 
 #[tactic(auto, unfolding(conversion::specs::Conversion::converted_line))]
-fn put_line(wanted: bool, mark: u16, line: &[u8], output: &mut [u8], at: usize) -> usize
-    requires { mark ≡ first_two line.now }
-    ensures { PutIfRoom (converted_line wanted line.now) at output.old output.new result }
+fn put_line(wanted: bool, line: &Line, output: &mut Output)
+    ensures { Puts (converted_line wanted line.now.bytes.now) output.old output.new }
 {
     if wanted {
-        put_new(mark, line, output, at)
+        put_new(line, output);
     } else {
-        put_old(mark, line, output, at)
+        put_old(line, output);
     }
 }
 
-// All lines from the output's start on.
-pub(crate) fn put_lines(wanted: bool, text: &[u8], output: &mut [u8]) -> usize
+// All lines from the buffer's start on, walked by hand as in `all_unheld`.
+pub(crate) fn put_lines(wanted: bool, text: &[u8], buffer: &mut [u8]) -> usize
     requires { InLines text.now }
-    ensures { PutIfRoom (converted wanted text.now) 0 output.old output.new result }
+    ensures { PutIfRoom (converted wanted text.now) 0 buffer.old buffer.new result }
 {
+    let mut output = Output::new(buffer);
     let mut at = 0;
-    let mut put = 0;
     while at < text.len() {
         let line = line_at(text, at);
-        let end = line.end;
-        let behind = put_line(wanted, line.mark, &text[at..end], output, put);
-        put = put_byte(output, behind, LINE_FEED);
-        at = end + 1;
+        put_line(wanted, &line, &mut output);
+        output.put_byte(LINE_FEED);
+        at += line.bytes.len() + 1;
     }
-    put
+    output.length
 }

@@ -1,4 +1,3 @@
-pub mod Filled
 pub mod KeptIntervals
 pub mod Labelable
 pub mod Linking

@@ -5,7 +5,7 @@ use mathlib.Core.Path.{◌≡◌, refl}
 use mathlib.Core.Bool.{Bool, true, false}
 use mathlib.Core.List.{List}
 use mathlib.Core.Logic.{◌⊎◌, ⊎_elim}
-use mathlib.Core.Option.{none}
+use Rattle.std.specs.Prelude.{None}
 use native.Mathlib.Decide.{ℕ_discrete}
 use native.Mathlib.Omega.{arith}
 use lib.ListN.{length, get_or}
@@ -27,7 +27,7 @@ never_from_last_on R a tick some late in_time =
     let later : tick < drive_of R a tick = with_hold_is_later (speed_on R a) (spans_of (get_or R.lengths a 0)) _ tick (omega (arith, some)) (omega arith) in
     ⊎_elim (λ by. absurd (omega (arith, by, later))) (λ is. is) (drive_by_last R a tick)
 
-pub none_arrives : (R : Roads) (tick interval : ℕ) → (length R.fences ≤ interval) ⊎ (last ≤ tick) → (a : ℕ) → ArrivesOn R a tick interval none
+pub none_arrives : (R : Roads) (tick interval : ℕ) → (length R.fences ≤ interval) ⊎ (last ≤ tick) → (a : ℕ) → ArrivesOn R a tick interval None
 none_arrives R tick interval out a few kept =
     ⊎_elim
     (λ outside. absurd (omega (arith, outside, kept_inside kept)))
@@ -35,7 +35,7 @@ none_arrives R tick interval out a few kept =
     out
 
 module _ {R : Roads} {heads next : List ℕ} {first : ℕ} {t : Tables} (d : Drivable R heads next first t) (settled : List Bool) (tick interval : ℕ)
-    (misses : (a : ℕ) → ArrivesOn R a tick interval none) where
+    (misses : (a : ℕ) → ArrivesOn R a tick interval None) where
   -- the arc after arc a is nearer to the end, or none is
   nearer : (a count : ℕ) → a < length heads → length heads - a ≤ suc count → length heads - get_or next a 0 ≤ count
   nearer a count is_arc left = go (ℕ_discrete (get_or next a 0) no_arc)

@@ -5,7 +5,7 @@ use mathlib.Core.Path.{◌≡◌, sym, ap, ◌∙◌}
 use mathlib.Core.Bool.{Bool, true, false, ◌&&◌, cond}
 use mathlib.Core.List.{List}
 use mathlib.Core.Logic.{◌⊎◌, inl, inr, ⊎_elim, by_cases}
-use mathlib.Core.Option.{Option}
+use Rattle.std.specs.Prelude.{Option, None, Some}
 use native.Mathlib.Decide.{dec_lt, ℕ_discrete}
 use native.Mathlib.Omega.{arith}
 use lib.Dec.{ltb, eqb}
@@ -248,7 +248,7 @@ module _ {N : Network} {source departure : ℕ} (q : Taken N source departure) w
         arrived ≡ tick_and_interval? N.fences arrives_at
     arrives_on on = on q.closures_kept.at_most (arc_kept N q.accepted tick interval a turn.settling.in_time turn.interval_is at.0)
 
-    turn_misses : ArrivesOn (roads_of N) a tick interval Option.none → Turn N source departure settled junction tick interval (get_or next a 0) t
+    turn_misses : ArrivesOn (roads_of N) a tick interval None → Turn N source departure settled junction tick interval (get_or next a 0) t
     turn_misses on = record {
       settling = missed q.accepted turn.settling a at.0 tail_settled tail_label more
           (arrived_never N.fences arrives_at (drive_by_last (roads_of N) a tick) (arrives_on on));
@@ -259,7 +259,7 @@ module _ {N : Network} {source departure : ℕ} (q : Taken N source departure) w
     }
 
     turn_offers : {arrival Arrives-in : ℕ} {u : Tables} → get_or settled (get_or N.heads a 0) false ≡ false →
-        ArrivesOn (roads_of N) a tick interval (Option.some (arrival, Arrives-in)) →
+        ArrivesOn (roads_of N) a tick interval (Some (arrival, Arrives-in)) →
         Leaves a (get_or N.heads a 0) arrival Arrives-in t u → Turn N source departure settled junction tick interval (get_or next a 0) u
     turn_offers {arrival} {Arrives-in} {u} waits on leaves = record {
       settling = rw (labels_are, predecessors_are) (offered q.accepted turn.settling a at.0 tail_settled tail_label more waits (omega (arith, arrives.2)));

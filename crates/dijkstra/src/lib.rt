@@ -3,8 +3,8 @@
 // question taken, it writes the labels and the predecessors.
 #![tactic(auto)]
 
-pub mod clear;
 pub mod label;
 mod link;
 mod offer;
 mod settle;
+mod tables;

@@ -1,24 +1,31 @@
 // The arcs of each junction, linked in rising order.
-ghost use Rattle.std.specs.Prelude.{◌≡◌, ℕ, ◌≤◌, ◌<◌, length, get_or, replicate};
-ghost use Rattle.model.specs.Labels.{no_arc};
+ghost use Rattle.std.specs.Prelude.{ℕ, ◌≤◌, ◌<◌, length, get_or};
 ghost use Rattle.model.specs.Limits.{max_arcs, max_junctions};
 ghost use Rattle.dijkstra.specs.Code.Linked.{Linked};
 
+use model::label::NO_ARC;
 use model::limit::{MAX_ARCS, MAX_JUNCTIONS};
 
-// Links the arcs of each tail in rising order: the first of them, and after each the next.
-pub(crate) fn link_arcs(tails: &[u16], first: &mut [u16; MAX_JUNCTIONS], next: &mut [u16; MAX_ARCS])
+// The first arc that leaves each junction, and after each arc the next with the same tail; the mark where there is none.
+#[derive(Clone, Copy)]
+pub(crate) struct Links {
+    pub(crate) first: [u16; MAX_JUNCTIONS],
+    pub(crate) next: [u16; MAX_ARCS],
+}
+
+pub(crate) fn link_arcs(tails: &[u16]) -> Links
     requires tails_len_bound { length tails.now ≤ max_arcs }
     requires by_index { (a : ℕ) → a < length tails.now → get_or tails.now a 0 < max_junctions }
-    requires first_value { first.old ≡ replicate max_junctions no_arc }
-    requires next_value { next.old ≡ replicate max_arcs no_arc }
-    ensures { Linked tails.now first.new next.new }
+    ensures { Linked tails.now result.first result.next }
 {
-    let mut a = tails.len();
-    while 0 < a {
-        a -= 1;
+    let mut links = Links {
+        first: [NO_ARC; MAX_JUNCTIONS],
+        next: [NO_ARC; MAX_ARCS],
+    };
+    for a in (0..tails.len()).rev() {
         let tail = tails[a] as usize;
-        next[a] = first[tail];
-        first[tail] = a as u16;
+        links.next[a] = links.first[tail];
+        links.first[tail] = a as u16;
     }
+    links
 }

@@ -1,8 +1,8 @@
 -- The engine's turns. On an arc that keeps the rules each starts a try. Either its interval covers what is left, and the arrival is in it or, at
 -- its end, in the next; or the next try starts at its end, past midnight in the first interval of the next day. Midnight after the second day is
 -- the last tick.
-use Rattle.std.proofs.Common.{◌≡◌, ℕ, suc, ◌+◌, ◌-◌, ◌*◌, ◌/◌, ◌%◌, ◌<◌, ◌≤◌, min, cond, ltb, List, length, get_or, sym, ap, ◌∙◌, ⊎_elim, add-zero, add-one, arith, w32, Fits, le-ltb, lt-ltb}
-use mathlib.Core.Option.{some}
+use Rattle.std.proofs.Common.{◌≡◌, ℕ, suc, ◌+◌, ◌-◌, ◌*◌, ◌/◌, ◌%◌, ◌<◌, ◌≤◌, min, cond, ltb, List, length, get_or, sym, ap, ◌∙◌, ⊎_elim, add-zero, add-one, arith}
+use Rattle.std.specs.Prelude.{Some}
 use lib.ListN.{get_or-eq_default}
 use Rattle.model.specs.Ticks.{day, last, never}
 use Rattle.model.specs.Flow.{spans_of, arrival, ticks_for_lem, Piece}
@@ -24,22 +24,11 @@ pub record Driving (departure interval metres : ℕ) (fences speeds : List ℕ) 
   pub days : ℕ
   pub is_midnight : midnight ≡ days * day
   pub before_last : midnight < last
-  pub time_fits : time < 4294967296
-  pub left_fits : left ≤ 154618822656
   pub when_kept : ArcKept departure interval metres fences speeds → AtTry fences speeds metres departure midnight k time left
 
 -- The turns left: those of the day, and on the first day those of the second too.
 abbrev pub turns_left : ℕ → ℕ → ℕ → ℕ
 turns_left intervals midnight k = cond (ltb midnight day) (intervals + (intervals - k)) (intervals - k)
-
-pub turn_less : (intervals midnight k : ℕ) → k < intervals → turns_left intervals midnight (k + 1) < turns_left intervals midnight k
-turn_less intervals midnight k inside =
-    ⊎_elim (λ w. rw w.0 (omega arith)) (λ w. rw w.0 (omega arith)) (ltb_cases midnight day)
-
-pub day_less : (intervals midnight days k : ℕ) → k < intervals → midnight ≡ days * day → midnight + day < last →
-    turns_left intervals (midnight + day) 0 < turns_left intervals midnight k
-day_less intervals midnight days k inside is_midnight more =
-    rw (lt-ltb midnight day (omega arith), le-ltb (midnight + day) day (omega arith)) (omega arith)
 
 module _ {departure interval metres : ℕ} {fences speeds : List ℕ} where
   -- the departure's interval is that of its time of day
@@ -66,10 +55,10 @@ module _ {departure interval metres : ℕ} {fences speeds : List ℕ} where
     left_over = left_over kept t;
   }
 
-  pub driving_starts : interval < min (length fences) (length speeds) → departure < last → Fits w32 metres →
+  pub driving_starts : interval < min (length fences) (length speeds) → departure < last →
       {time midnight : ℕ} → time ≡ time_of_day_lem departure → midnight ≡ departure - time →
       Driving departure interval metres fences speeds midnight interval time (36 * metres)
-  driving_starts inside early long {time} {midnight} time-is midnight-is =
+  driving_starts inside early {time} {midnight} time-is midnight-is =
       let (split, in_day_law) = day_and_time departure in
       let whole : midnight + time ≡ departure = omega arith in
       record {
@@ -77,8 +66,6 @@ module _ {departure interval metres : ℕ} {fences speeds : List ℕ} where
         days = departure / day;
         is_midnight = omega arith;
         before_last = omega arith;
-        time_fits = omega arith;
-        left_fits = omega (arith, long);
         when_kept = λ kept. at_try kept (omega arith) (rw time-is (in_interval_of kept)) (rw whole (Try.first early));
       }
 
@@ -133,26 +120,31 @@ module _ {departure interval metres : ℕ} {fences speeds : List ℕ} where
         arrives_here : midnight + arrives ≡ total
         arrives_here = omega (arith, rw speed_here at (within_try kept here.is_try (rw covers_here h)))
 
-        answers : {number : ℕ} → interval_of_lem fences (midnight + arrives) ≡ number → some (tick, number) ≡ tick_and_interval? fences total
+        answers : {number : ℕ} → interval_of_lem fences (midnight + arrives) ≡ number → Some (tick, number) ≡ tick_and_interval? fences total
         answers {number} in_interval =
             let by_last : midnight + arrives ≤ last = omega (arith, by_end h, end_here, rest.forward, rest.in_time) in
             let same : tick ≡ midnight + arrives = omega arith in
             rw (← arrives_here) (told fences same by_last (sym in_interval))
 
-        pub arrives_within : arrives < end → some (tick, k) ≡ tick_and_interval? fences total
+        arrives_within : arrives < end → Some (tick, k) ≡ tick_and_interval? fences total
         arrives_within before =
             answers
             (same_interval fences kept.fences_kept time k here.in_day_law here.in_interval d.days day_by_last (midnight + arrives)
             (omega (arith, d.is_midnight)) (omega (arith, d.is_midnight, end_is_next)))
 
-        pub arrives_at_end : end ≤ arrives → {next : ℕ} → next ≡ interval_after_lem (min (length fences) (length speeds)) k →
-            some (tick, next) ≡ tick_and_interval? fences total
+        arrives_at_end : end ≤ arrives → {next : ℕ} → next ≡ interval_after_lem (min (length fences) (length speeds)) k →
+            Some (tick, next) ≡ tick_and_interval? fences total
         arrives_at_end late {next} next_is =
             let at_end_law : midnight + arrives ≡ d.days * day + get_or fences (suc k) day = omega (arith, d.is_midnight, end_is_next, by_end h, end_here, rest.forward) in
             let intervals : min (length fences) (length speeds) ≡ length fences = omega (arith, kept.as_many) in
             answers
             (rw (at_end_law, next_is, intervals)
             (interval_at_end fences kept.fences_kept time k here.in_day_law here.in_interval d.days day_by_last kept.some_interval))
+
+        pub arrives_by_end : {next : ℕ} → next ≡ cond (ltb arrives end) k (interval_after_lem (min (length fences) (length speeds)) k) →
+            Some (tick, next) ≡ tick_and_interval? fences total
+        arrives_by_end next_is =
+            ⊎_elim (λ w. rw (next_is, w.0) (arrives_within w.1)) (λ w. arrives_at_end w.1 (rw w.0 at next_is)) (ltb_cases arrives end)
 
       -- the next try
       tries_next : covers < left → midnight + end < last → Try fences speeds metres departure (midnight + end) (left - covers)
@@ -179,15 +171,13 @@ module _ {departure interval metres : ℕ} {fences speeds : List ℕ} where
           at_try kept (omega arith) (rw kept.fences_kept.first_is_0 at (counted_at_fence fences kept.fences_kept 0 kept.some_interval))
           (rw (add-zero, ← ends_day done) (tries_next h (rw (ends_day done) early)))
 
-    pub drives_on : covers < left → k + 1 < min (length fences) (length speeds) → Fits w32 end → {over : ℕ} → over ≡ left - covers →
+    pub drives_on : covers < left → k + 1 < min (length fences) (length speeds) → {over : ℕ} → over ≡ left - covers →
         Driving departure interval metres fences speeds midnight (k + 1) end over
-    drives_on h more wide {over} over-is = record {
+    drives_on h more {over} over-is = record {
       inside = more;
       days = d.days;
       is_midnight = d.is_midnight;
       before_last = d.before_last;
-      time_fits = omega (arith, wide);
-      left_fits = omega (arith, d.left_fits);
       when_kept = λ kept. rw over-is (tries_on kept h (omega arith));
     }
 
@@ -198,7 +188,5 @@ module _ {departure interval metres : ℕ} {fences speeds : List ℕ} where
       days = suc d.days;
       is_midnight = omega (arith, d.is_midnight);
       before_last = early;
-      time_fits = omega arith;
-      left_fits = omega (arith, d.left_fits);
       when_kept = λ kept. rw over-is (tries_next_day kept h (omega (arith, kept.as_many)) early);
     }

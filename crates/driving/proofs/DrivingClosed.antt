@@ -1,7 +1,7 @@
 -- The engine's turns on an arc with closures. Each drives on from a tick in its interval, as a departure from there with what is left. Its piece of
 -- constant speed ends with the interval, or before at a closure's edge. It covers what is left, or the next turn starts at its end.
-use Rattle.std.proofs.Common.{◌≡◌, ℕ, suc, ◌+◌, ◌-◌, ◌*◌, ◌/◌, ◌<◌, ◌≤◌, min, cond, ltb, leb, List, length, get_or, sym, refl, ◌∙◌, ⊎_elim, mod-eq_of_lt, add-one, arith, w32, Fits, ltb-true, le-leb}
-use mathlib.Core.Option.{some}
+use Rattle.std.proofs.Common.{◌≡◌, ℕ, suc, ◌+◌, ◌-◌, ◌*◌, ◌/◌, ◌<◌, ◌≤◌, min, cond, ltb, leb, List, length, get_or, sym, refl, ◌∙◌, ⊎_elim, mod-eq_of_lt, add-one, arith, ltb-true, le-leb}
+use Rattle.std.specs.Prelude.{Some}
 use borrow.Author.Tests.{lt-leb}
 use Rattle.model.specs.Ticks.{day, last, never}
 use Rattle.model.specs.Flow.{spans_of, arrival, ticks_for_lem, Piece}
@@ -70,19 +70,10 @@ pub record DrivenTo (departure metres : ℕ) (fences speeds : List ℕ) (v : ℕ
 
 pub record DrivingClosed (departure interval metres : ℕ) (fences speeds : List ℕ) (arc : ℕ) (closures : List Closure) (k tick left : ℕ) : Type 0 where
   pub inside : k < min (length fences) (length speeds)
-  pub left_fits : left ≤ 154618822656
   pub when_kept : ArcKept departure interval metres fences speeds →
       DrivenTo departure metres fences speeds (with_closures closures arc (speed_at fences speeds)) k tick left
 
 module _ {departure interval metres : ℕ} {fences speeds : List ℕ} {arc : ℕ} {closures : List Closure} where
-  pub closed_starts : interval < min (length fences) (length speeds) → Fits w32 metres →
-      DrivingClosed departure interval metres fences speeds arc closures interval departure (36 * metres)
-  closed_starts inside long = record {
-    inside = inside;
-    left_fits = omega (arith, long);
-    when_kept = λ kept. record { kept_here = kept; above_0 = omega (arith, kept.some_length); same_arrival = refl };
-  }
-
   module _ {k tick left : ℕ} (d : DrivingClosed departure interval metres fences speeds arc closures k tick left) where
     abbrev v : ℕ → ℕ
     v = with_closures closures arc (speed_at fences speeds)
@@ -143,7 +134,7 @@ module _ {departure interval metres : ℕ} {fences speeds : List ℕ} {arc : ℕ
 
         pub arrives_in_piece : left ≤ covers → {arrives next : ℕ} → arrives ≡ tick + ticks_for_lem left speed →
             next ≡ cond (ltb arrives end) k (interval_after_lem (min (length fences) (length speeds)) k) →
-            ArcKept departure interval metres fences speeds → some (arrives, next) ≡ tick_and_interval? fences total
+            ArcKept departure interval metres fences speeds → Some (arrives, next) ≡ tick_and_interval? fences total
         arrives_in_piece h {arrives} arrives-is next_is kept =
             let by : arrives ≤ until = omega (arith, by_until h, (piece kept).forward) in
             let same : total ≡ arrives = (rw (le-leb left covers h) at (over_piece kept)) ∙ sym arrives-is in
@@ -154,7 +145,6 @@ module _ {departure interval metres : ℕ} {fences speeds : List ℕ} {arc : ℕ
             DrivingClosed departure interval metres fences speeds arc closures next until over
         drives_past_piece h {over} over-is inside next_is = record {
           inside = inside;
-          left_fits = omega (arith, d.left_fits);
           when_kept = λ kept. record {
             kept_here = record {
               in_time = (piece kept).in_time;

@@ -1,18 +1,20 @@
--- How many fences a time of day has reached, counted along the table.
-use Rattle.std.proofs.Common.{◌≡◌, ℕ, ◌+◌, ◌<◌, ◌≤◌, List, length, get_or, drop, add-zero, add-suc, suc-add, add-one, drop_of_length-le, drop-cons, le-leb}
-use borrow.Author.Tests.{lt-leb}
+-- How many fences a time of day has reached: as many as stand before the first that is still ahead.
+use Rattle.std.proofs.Common.{◌≡◌, ℕ, List, length, ltb, refl, ⊎_elim, arith}
+use Rattle.std.specs.List.{position, position_or_len}
+use Rattle.std.specs.Option.{unwrap_or}
+use Rattle.std.proofs.lemmas.List.Recursion.{is_position_or_len}
+use borrow.Author.Tests.{lt-leb, le-leb}
 use Rattle.model.specs.Intervals.{passed}
+use Rattle.model.proofs.Tests.{ltb_cases}
+use Rattle.model.proofs.Passed.{passed_at_most}
 
--- The fences left behind the first k add the rest of a count.
-module _ (fences : List ℕ) (time k count : ℕ) (so_far : k + passed (drop k fences) time ≡ count) where
-  pub passed_stops : k < length fences → time < get_or fences k 0 → k ≡ count
-  unfolding passed
-  passed_stops h e = rw (drop-cons fences k 0 h, passed, lt-leb (get_or fences k 0) time e, add-zero) at so_far
+passed_is : (fences : List ℕ) (time : ℕ) → passed fences time ≡ position_or_len (λ fence. ltb time fence) fences
+unfolding passed
+passed_is fences time =
+    is_position_or_len (λ rest. passed rest time) (λ fence. ltb time fence) refl
+    (λ fence rest. ⊎_elim (λ w. rw (w.0, lt-leb fence time w.1)) (λ w. rw (w.0, le-leb fence time w.1) (omega arith)) (ltb_cases time fence)) fences
 
-  pub passed_goes_on : k < length fences → get_or fences k 0 ≤ time → k + 1 + passed (drop (k + 1) fences) time ≡ count
-  unfolding passed
-  passed_goes_on h e = rw (add-one, suc-add) (rw (drop-cons fences k 0 h, passed, le-leb (get_or fences k 0) time e, add-suc) at so_far)
-
-  pub passed_ends : length fences ≤ k → k ≡ count
-  unfolding passed
-  passed_ends h = rw (drop_of_length-le fences h, add-zero) at so_far
+pub passed_found : (fences : List ℕ) (time : ℕ) → unwrap_or (position (λ fence. ltb time fence) fences) (length fences) ≡ passed fences time
+passed_found fences time =
+    rw (← passed_is fences time)
+    (⊎_elim (λ w. rw w.0) (λ w. rw w.0 (omega (arith, w.1, passed_at_most fences time))) (ltb_cases (passed fences time) (length fences)))

@@ -10,12 +10,19 @@ ghost use Rattle.driving.specs.ArcKept.{ArcKept};
 ghost use Rattle.driving.specs.InPlan.{InPlan};
 ghost use Rattle.driving.specs.Code.Closed.{next_edge, same_until, PieceFrom};
 
-use crate::drive::{covered_until, intervals_of, ticks_for};
+use crate::drive::{covered_until, ticks_for};
 use crate::hold::with_hold;
-use crate::interval::{interval_after, interval_end, time_of_day};
+use crate::interval::{interval_by_end, interval_end, time_of_day};
+use crate::road::Road;
 use model::limit::SPANS_PER_METRE;
 use model::tick::{Arrival, Tick};
-use std::num::wrapping_add_u32;
+
+// An arc with a list in which all records that name it stand. Others may stand there too.
+#[derive(Clone, Copy)]
+pub struct Works<'a> {
+    pub arc: u32,
+    pub closures: &'a [[u32; 4]],
+}
 
 // What a tick finds on an arc: whether it is closed, and the tick up to which that stays so.
 #[derive(Clone, Copy)]
@@ -24,48 +31,42 @@ struct Stretch {
     until: u32,
 }
 
-fn lesser(a: u32, b: u32) -> u32
-    ensures { result ≡ min a b }
-{
-    if a < b { a } else { b }
-}
-
 // What one more record makes of a stretch: one that starts later cuts it there, one that contains the tick closes it and cuts it at its end.
+#[tactic(auto, unfolding(crate::specs::Code::Closed::next_edge))]
 fn with_closure(stretch: Stretch, closure: [u32; 4], arc: u32, tick: u32) -> Stretch
     ensures closed_value { result.closed ≡ (closes? (closure_of closure) arc tick || stretch.closed) }
     ensures until_value { result.until ≡ next_edge (closure_of closure) arc tick stretch.until }
 {
-    if closure[0] != arc {
+    let [its_arc, first, end, _] = closure;
+    if its_arc != arc {
         return stretch;
     }
-    if tick < closure[1] {
+    if tick < first {
         return Stretch {
-            closed: stretch.closed,
-            until: lesser(stretch.until, closure[1]),
+            until: stretch.until.min(first),
+            ..stretch
         };
     }
-    if tick < closure[2] {
+    if tick < end {
         return Stretch {
             closed: true,
-            until: lesser(stretch.until, closure[2]),
+            until: stretch.until.min(end),
         };
     }
     stretch
 }
 
 // The stretch from a tick on, up to the limit at most: one scan of the list.
-fn stretch_at(closures: &[[u32; 4]], arc: u32, tick: u32, limit: u32) -> Stretch
-    ensures closed_value { result.closed ≡ closed? (closures_of closures.now) arc tick }
-    ensures until_value { result.until ≡ same_until (closures_of closures.now) arc tick limit }
+fn stretch_at(works: &Works, tick: u32, limit: u32) -> Stretch
+    ensures closed_value { result.closed ≡ closed? (closures_of works.now.closures.now) works.now.arc tick }
+    ensures until_value { result.until ≡ same_until (closures_of works.now.closures.now) works.now.arc tick limit }
 {
     let mut stretch = Stretch {
         closed: false,
         until: limit,
     };
-    let mut i = 0;
-    while i < closures.len() {
-        stretch = with_closure(stretch, closures[i], arc, tick);
-        i += 1;
+    for closure in works.closures {
+        stretch = with_closure(stretch, *closure, works.arc, tick);
     }
     stretch
 }
@@ -75,20 +76,7 @@ fn end_of(fences: &[u32], k: usize, tick: u32) -> u32
     requires { k < length fences.now }
     ensures { result ≡ (tick - time_of_day_lem tick + slice_index_or fences.now (k + 1) day) % 2 ^ 32 }
 {
-    wrapping_add_u32(tick - time_of_day(tick), interval_end(fences, k))
-}
-
-// The interval of a tick that is in interval k or at its end, where the next one has started.
-fn interval_by_end(k: usize, intervals: usize, tick: u32, end: u32) -> usize
-    requires { k < intervals }
-    ensures value { result ≡ (if nat_lt tick end then k else interval_after_lem intervals k) }
-    ensures upper_bound { result < intervals }
-{
-    if tick < end {
-        k
-    } else {
-        interval_after(k, intervals)
-    }
+    (tick - time_of_day(tick)).wrapping_add(interval_end(fences, k))
 }
 
 // The speed in interval k, which is 0 where the arc is closed.
@@ -108,91 +96,71 @@ struct Piece {
 }
 
 // The piece from a tick on, which is in interval k.
-fn piece_from(
-    tick: u32,
-    k: usize,
-    fences: &[u32],
-    speeds: &[u8],
-    arc: u32,
-    closures: &[[u32; 4]],
-) -> Piece
-    requires { k < min (length fences.now) (length speeds.now) }
-    ensures { PieceFrom tick k fences.now speeds.now arc (closures_of closures.now) result.until result.speed result.end }
+fn piece_from(road: &Road, works: &Works, tick: u32, k: usize) -> Piece
+    requires { k < min (length road.now.fences.now) (length road.now.speeds.now) }
+    ensures { PieceFrom tick k road.now.fences.now road.now.speeds.now works.now.arc (closures_of works.now.closures.now)
+        result.until result.speed result.end }
 {
-    let end = end_of(fences, k, tick);
-    let stretch = stretch_at(closures, arc, tick, end);
+    let end = end_of(road.fences, k, tick);
+    let stretch = stretch_at(works, tick, end);
     Piece {
         until: stretch.until,
-        speed: speed_in(speeds, k, stretch.closed),
+        speed: speed_in(road.speeds, k, stretch.closed),
         end,
     }
 }
 
 // The arrival on an arc with closures, piece by piece: a piece ends at a fence, at midnight or where a closure starts or ends. In each it makes
 // the try and takes what is covered off the length left over, as `drive` does. Of an arc that breaks the rules it says as little as `drive`.
-pub fn drive_closed(
-    departure: u32,
-    interval: usize,
-    metres: u32,
-    fences: &[u32],
-    speeds: &[u8],
-    arc: u32,
-    closures: &[[u32; 4]],
-) -> Arrival
-    ensures result_value { ArcKept departure interval metres fences.now speeds.now →
-        arrived_at result ≡ tick_and_interval? fences.now
-        (arrival (with_closures (closures_of closures.now) arc (speed_at fences.now speeds.now)) (spans_of metres) departure) }
-    ensures in_plan { InPlan fences.now result }
+pub fn drive_closed(road: &Road, works: &Works, departure: u32, interval: usize) -> Option<Arrival>
+    ensures result_value { ArcKept departure interval road.now.metres road.now.fences.now road.now.speeds.now →
+        arrived_at result ≡ tick_and_interval? road.now.fences.now
+        (arrival (with_closures (closures_of works.now.closures.now) works.now.arc (speed_at road.now.fences.now road.now.speeds.now))
+        (spans_of road.now.metres) departure) }
+    ensures in_plan { InPlan road.now.fences.now result }
 {
-    let intervals = intervals_of(fences, speeds);
+    let intervals = road.fences.len().min(road.speeds.len());
     if intervals <= interval {
-        return Arrival::Never;
+        return None;
     }
     let mut k = interval;
     let mut tick = departure;
-    let mut left = SPANS_PER_METRE * (metres as u64);
+    let mut left = SPANS_PER_METRE * (road.metres as u64);
     // At the last tick nothing more is covered: no piece starts there.
     while tick < Tick::LAST {
-        let piece = piece_from(tick, k, fences, speeds, arc, closures);
+        let piece = piece_from(road, works, tick, k);
         let until = piece.until;
         // On an arc that keeps the rules an interval ends after each of its ticks.
         if until <= tick {
-            return Arrival::Never;
+            return None;
         }
         let covers = covered_until(until, tick, piece.speed);
         if left <= covers {
             let arrives = tick + ticks_for(left, piece.speed) as u32;
-            return Arrival::At {
+            return Some(Arrival {
                 tick: Tick { number: arrives },
                 interval: interval_by_end(k, intervals, arrives, piece.end),
-            };
+            });
         }
         left -= covers;
         tick = until;
         k = interval_by_end(k, intervals, tick, piece.end);
     }
-    Arrival::Never
+    None
 }
 
 // Drives an arc with closures and waits out its hold, which runs on through a closure.
 pub fn drive_closed_with_hold(
+    road: &Road,
+    works: &Works,
     departure: u32,
     interval: usize,
-    metres: u32,
-    hold: u32,
-    fences: &[u32],
-    speeds: &[u8],
-    arc: u32,
-    closures: &[[u32; 4]],
-) -> Arrival
-    ensures result_value { ArcKept departure interval metres fences.now speeds.now →
-        arrived_at result ≡ tick_and_interval? fences.now
-        (arrival_with_hold (with_closures (closures_of closures.now) arc (speed_at fences.now speeds.now)) (spans_of metres) hold departure) }
-    ensures in_plan { InPlan fences.now result }
+) -> Option<Arrival>
+    ensures result_value { ArcKept departure interval road.now.metres road.now.fences.now road.now.speeds.now →
+        arrived_at result ≡ tick_and_interval? road.now.fences.now (arrival_with_hold
+        (with_closures (closures_of works.now.closures.now) works.now.arc (speed_at road.now.fences.now road.now.speeds.now))
+        (spans_of road.now.metres) road.now.hold departure) }
+    ensures in_plan { InPlan road.now.fences.now result }
 {
-    with_hold(
-        drive_closed(departure, interval, metres, fences, speeds, arc, closures),
-        hold,
-        fences,
-    )
+    with_hold(road, drive_closed(road, works, departure, interval))
 }

@@ -6,3 +6,4 @@ pub mod closed;
 pub mod drive;
 pub mod hold;
 pub mod interval;
+pub mod road;

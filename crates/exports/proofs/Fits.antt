@@ -10,7 +10,8 @@ use Rattle.model.specs.Limits.{max_junctions, max_arcs, max_intervals}
 use Rattle.model.proofs.Tests.{ltb_cases}
 use Rattle.townfile.specs.Grammar.{Bytes, Town, Describes}
 use Rattle.townfile.specs.FirstFault.{accepted, first_fault}
-use Rattle.townfile.specs.Load.{Counts, Tables, counts_of_town, load_answer}
+use Rattle.townfile.specs.Load.{Tables, counts_of_town, load_answer}
+use Rattle.townfile.specs.declared.counts.Counts.{Counts}
 use Rattle.townfile.specs.Name.{name_place_lem}
 use Rattle.townfile.proofs.Load.{load_accepts_when_described}
 use Rattle.townfile.proofs.NamePlace.{name_stands_at_place}

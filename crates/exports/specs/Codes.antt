@@ -1,10 +1,9 @@
 -- The number that each function for C answers, from what its operation comes to.
-use Rattle.std.specs.Prelude.{ℕ, ◌+◌, ◌*◌, ◌^◌, Bool, true, false}
-use Rattle.std.proofs.Math.Option.{Option, none, some}
+use Rattle.std.specs.Prelude.{ℕ, ◌+◌, ◌*◌, ◌^◌, Bool, true, false, Option, None, Some}
 use Rattle.refusals.specs.Refusals.{refusal_base}
 use Rattle.model.specs.Rules.{Outcome, refused, replied}
 use Rattle.townfile.specs.FirstFault.{Reading, refused_at, accepted}
-use Rattle.townfile.specs.Load.{Counts}
+use Rattle.townfile.specs.declared.counts.Counts.{Counts}
 use Rattle.townfile.specs.declared.part.Part.{Part}
 
 -- Network check and Labels: the refusal's number, or 0. No refusal has number 0.
@@ -15,8 +14,8 @@ number_or0 (replied tt) = 0
 -- Arc arrival: tick + interval × 2^32; 2^62 where the arc cannot be driven; 2^63 + the refusal's number.
 abbrev pub arrival_code : Outcome (Option (ℕ × ℕ)) → ℕ
 arrival_code (refused number) = 2 ^ 63 + number
-arrival_code (replied (some (tick, interval))) = tick + interval * 2 ^ 32
-arrival_code (replied none) = 2 ^ 62
+arrival_code (replied (Some (tick, interval))) = tick + interval * 2 ^ 32
+arrival_code (replied None) = 2 ^ 62
 
 -- Route, Passes and the week store: the refusal's code, or the number of arcs or of passes, a version or a place.
 abbrev pub count_code : Outcome ℕ → ℕ

@@ -1,5 +1,4 @@
-// The operations for C, to compare and to time them: each function calls its operation, or reads the closures as
-// its operation does and calls what that calls, and answers one number. The host question,
+// The operations for C, to compare and to time them: each function calls its operation, and answers one number. The host question,
 // the cabinet's own function for C, stands in the crate `cabinet`.
 #![tactic(auto)]
 

@@ -1,13 +1,15 @@
 // Network check and Arc arrival, over lent tables.
 ghost use Rattle.std.specs.Prelude.{◌≡◌, []};
+ghost use Rattle.model.specs.Network.{network};
 ghost use Rattle.model.specs.NetworkRules.{network_check_lem};
-ghost use Rattle.model.specs.Lent.{lent_network};
 ghost use Rattle.arc_arrival.specs.ArcArrival.{arc_arrival_lem};
 ghost use Rattle.exports.specs.Codes.{number_or0, arrival_code};
 
 use crate::bit::{BIT_32, BIT_62, BIT_63};
-use arc_arrival::arc::{ArcArrival, arc_arrival};
-use checking::network::{NetworkCheck, network_check};
+use arc_arrival::arc::arc_arrival;
+use checking::network::network_check;
+use driving::road::Road;
+use model::network::Network;
 use model::tick::Tick;
 
 // 0, or the refusal's number.
@@ -21,11 +23,20 @@ pub extern "C" fn exports_network_check(
     holds: &[u16],
     speeds: &[u8],
 ) -> u32
-    ensures { result ≡ number_or0 (network_check_lem (lent_network junctions fences tails heads lengths holds speeds [])) }
+    ensures { result ≡ number_or0 (network_check_lem (network junctions fences.now tails.now heads.now lengths.now holds.now speeds.now [])) }
 {
-    match network_check(junctions, fences, tails, heads, lengths, holds, speeds) {
-        NetworkCheck::Accepted => 0,
-        NetworkCheck::Refused(refusal) => refusal.number(),
+    let lent = Network {
+        junctions,
+        fences,
+        tails,
+        heads,
+        lengths,
+        holds,
+        speeds,
+    };
+    match network_check(&lent) {
+        Ok(()) => 0,
+        Err(refusal) => refusal.number(),
     }
 }
 
@@ -41,19 +52,15 @@ pub extern "C" fn exports_arc_arrival(
 ) -> u64
     ensures { result ≡ arrival_code (arc_arrival_lem departure interval metres hold fences.now speeds.now) }
 {
-    match arc_arrival(
-        Tick { number: departure },
-        interval,
-        metres,
-        hold,
+    let road = Road {
         fences,
         speeds,
-    ) {
-        ArcArrival::At {
-            tick,
-            interval: arrives_in,
-        } => tick.number as u64 + arrives_in as u64 * BIT_32,
-        ArcArrival::CannotBeDriven => BIT_62,
-        ArcArrival::Refused(refusal) => BIT_63 + refusal.number() as u64,
+        metres,
+        hold,
+    };
+    match arc_arrival(&road, Tick { number: departure }, interval) {
+        Ok(Some(arrival)) => arrival.tick.number as u64 + arrival.interval as u64 * BIT_32,
+        Ok(None) => BIT_62,
+        Err(refusal) => BIT_63 + refusal.number() as u64,
     }
 }

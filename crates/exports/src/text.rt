@@ -1,16 +1,26 @@
 // Load, Name and the converters, over a town file.
-ghost use Rattle.std.specs.Prelude.{◌≡◌, true, false};
+ghost use Rattle.std.specs.Prelude.{◌≡◌, ◌+◌, ◌*◌, ◌^◌, true, false};
+ghost use Rattle.refusals.specs.Refusals.{number_of};
 ghost use Rattle.townfile.specs.Load.{load_answer, tables_after};
 ghost use Rattle.townfile.specs.Name.{name_place_lem};
 ghost use Rattle.townfile.specs.Lent.{tables_to_fill, left_tables};
 ghost use Rattle.exports.specs.Codes.{load_code_lem, length_code_lem, place_code};
 ghost use Rattle.conversion.specs.Conversion.{convert_answer, output_after};
-ghost use Rattle.converting.specs.Converted.{reading_of};
+ghost use Rattle.townfile.specs.Answers.{reading_of};
 
 use crate::bit::{BIT_16, BIT_32, BIT_63};
-use converting::convert::{Converted, to_new, to_old};
-use loading::load::{Loaded, load};
+use converting::convert::{to_new, to_old};
+use loading::load::load;
 use naming::name::name_place;
+use townfile::fault::Fault;
+use townfile::tables::Tables;
+
+// 2^63 + the refusal's number × 2^32 + its line.
+fn fault_code(fault: Fault) -> u64
+    ensures { result ≡ 2 ^ 63 + number_of fault.refusal * 2 ^ 32 + fault.line }
+{
+    BIT_63 + fault.refusal.number() as u64 * BIT_32 + fault.line as u64
+}
 
 // junctions + intervals × 2^16 + arcs × 2^32, or 2^63 + the refusal's number × 2^32 + its line.
 #[unsafe(no_mangle)]
@@ -26,15 +36,19 @@ pub extern "C" fn exports_load(
     ensures answer { result ≡ load_code_lem (load_answer text.now (tables_to_fill fences tails heads lengths holds speeds)) }
     ensures tables { left_tables fences tails heads lengths holds speeds ≡ tables_after text.now (tables_to_fill fences tails heads lengths holds speeds) }
 {
-    match load(text, fences, tails, heads, lengths, holds, speeds) {
-        Loaded::Counts {
-            junctions,
-            intervals,
-            arcs,
-        } => junctions as u64 + intervals as u64 * BIT_16 + arcs as u64 * BIT_32,
-        Loaded::Refused { refusal, line } => {
-            BIT_63 + refusal.number() as u64 * BIT_32 + line as u64
+    let mut tables = Tables {
+        fences,
+        tails,
+        heads,
+        lengths,
+        holds,
+        speeds,
+    };
+    match load(text, &mut tables) {
+        Ok(counts) => {
+            counts.junctions as u64 + counts.intervals as u64 * BIT_16 + counts.arcs as u64 * BIT_32
         }
+        Err(fault) => fault_code(fault),
     }
 }
 
@@ -48,14 +62,12 @@ pub extern "C" fn exports_name(text: &[u8], junction: u32) -> u64
 }
 
 // The length of a converter's result, or 2^63 + the refusal's number × 2^32 + its line.
-fn length_code(answer: Converted) -> u64
+fn length_code(answer: Result<usize, Fault>) -> u64
     ensures { result ≡ length_code_lem (reading_of answer) }
 {
     match answer {
-        Converted::Length(length) => length as u64,
-        Converted::Refused { refusal, line } => {
-            BIT_63 + refusal.number() as u64 * BIT_32 + line as u64
-        }
+        Ok(length) => length as u64,
+        Err(fault) => fault_code(fault),
     }
 }
 

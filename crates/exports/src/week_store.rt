@@ -1,21 +1,20 @@
 // The week store, over its two lent tables.
 ghost use Rattle.std.specs.Prelude.{◌≡◌};
+ghost use Rattle.refusals.specs.Answers.{outcome_of};
 ghost use Rattle.week.specs.Store.{store};
-ghost use Rattle.week.specs.Making.{outcome_of, new_answer, new_leaves, change_answer, change_leaves};
+ghost use Rattle.week.specs.Making.{new_answer, new_leaves, change_answer, change_leaves};
 ghost use Rattle.week.specs.Planning.{plan_answer};
 ghost use Rattle.exports.specs.Codes.{count_code};
 
-use week::making::{Made, week_change, week_new};
-use week::planning::{Plan, week_plan};
+use refusals::refusal::Refusal;
+use week::making::{week_change, week_new};
+use week::planning::week_plan;
 
 // The version made, or the refusal's code.
-fn made_code(made: Made) -> u32
+fn made_code(made: Result<u16, Refusal>) -> u32
     ensures { result ≡ count_code (outcome_of made) }
 {
-    match made {
-        Made::Version(version) => version as u32,
-        Made::Refused(refusal) => refusal.code(),
-    }
+    made.map_or_else(Refusal::code, u32::from)
 }
 
 #[unsafe(no_mangle)]
@@ -54,8 +53,5 @@ pub extern "C" fn exports_week_plan(
 ) -> u32
     ensures { result ≡ count_code (plan_answer (store versions.now lists.now) version day) }
 {
-    match week_plan(versions, lists, version, day) {
-        Plan::Place(place) => place,
-        Plan::Refused(refusal) => refusal.code(),
-    }
+    week_plan(versions, lists, version, day).unwrap_or_else(Refusal::code)
 }

@@ -5,6 +5,7 @@ use mathlib.Core.Path.{◌≡◌, refl, sym, ap, ◌∙◌}
 use mathlib.Core.Bool.{Bool, true, false, cond, ◌&&◌, and-false}
 use mathlib.Core.Logic.{◌⊎◌, inl, inr}
 use mathlib.Core.List.{List, [], ◌∷◌}
+use Rattle.std.specs.Prelude.{Some, None}
 use native.Mathlib.Nat.{lt_of_lt_of_le, le_trans, pow-suc, pow-le-pow_right}
 use native.Mathlib.Omega.{arith}
 use lib.Dec.{leb, ltb, eqb, eqb-suc-zero}
@@ -17,9 +18,8 @@ use Rattle.townfile.specs.Bytes.{line_feed, space, digit}
 use Rattle.townfile.specs.Numbers.{decimal_from, decimal, number_keeps}
 use Rattle.townfile.proofs.Between.{between_every}
 use Rattle.townfile.proofs.NumberForm.{keeps_number}
-use Rattle.fields.specs.Fields.{line_from, word_from, field_at}
+use Rattle.fields.specs.Fields.{line_from, word_from, field, field_at}
 use Rattle.fields.specs.Code.Digits.{just_zero_lem, number_from}
-use Rattle.fields.specs.declared.field.Field.TheVariants.{Number, Malformed}
 use Rattle.fields.proofs.LineFrom.{line_ends, word_ends, separator_ends, word_goes_on, no_gap_begins}
 
 -- ---- A digit
@@ -54,7 +54,7 @@ decimal_least least k n [] h many = le_trans (pow-le-pow_right {n = 10} (omega a
 decimal_least least k n (byte ∷ bytes) h many = decimal_least least (suc k) (n * 10 + (byte - 48)) bytes (omega (arith, pow-suc 10 k)) (omega arith)
 
 decimal_below : (most k n : ℕ) (bytes : List ℕ) → every digit bytes ≡ true → n < 10 ^ k → k + length bytes ≤ most → decimal_from n bytes < 10 ^ most
-unfolding decimal_from every
+unfolding decimal_from
 decimal_below most k n [] e h few = lt_of_lt_of_le h (pow-le-pow_right {n = 10} (omega arith) {i = k} {j = most} (omega arith))
 decimal_below most k n (byte ∷ bytes) e h few =
     let parts = true_both (digit byte) (every digit bytes) e in
@@ -81,12 +81,12 @@ unless_true true other = absurd (other refl)
 unless_true false other = refl
 
 keeps_zero : (more : List ℕ) → number_keeps (48 ∷ more) ≡ eqb (length more) 0
-unfolding number_keeps every
+unfolding number_keeps
 keeps_zero [] = refl
 keeps_zero (byte ∷ more) = unless_true _ (λ e. omega (arith, (keeps_number (48 ∷ byte ∷ more) e).no_leading_zero refl)) ∙ sym (eqb-suc-zero (length more))
 
 keeps_digit : (first : ℕ) (more : List ℕ) → 49 ≤ first → first < 58 → number_keeps (first ∷ more) ≡ (every digit more && ltb (decimal_from (first - 48) more) 10000000)
-unfolding number_keeps every
+unfolding number_keeps
 keeps_digit first more low high =
     rw (lt-ltb 0 (suc (length more)) (omega arith), digit_is first (omega arith) high, ne_eqb first 48 (λ e. omega arith))
     (go (every digit more) (leb (suc (length more)) 7) (ltb (decimal_from (first - 48) more) 10000000) (few_digits (first - 48) more (omega arith) (omega arith)))
@@ -98,31 +98,30 @@ keeps_digit first more low high =
     go false false below same = refl
 
 keeps_no_other : (first : ℕ) (more : List ℕ) → digit first ≡ false → number_keeps (first ∷ more) ≡ false
-unfolding every
 keeps_no_other first more e = unless_true _ (λ kept. let z : ◌≡◌ {A = ℕ} 0 1 = cc (rw e at (all_digits (first ∷ more) kept)) in omega arith)
 
 -- ---- No field
 
-pub no_field_at_end : (text : List ℕ) (at : ℕ) → length text ≤ at → Malformed ≡ field_at text at
+pub no_field_at_end : (text : List ℕ) (at : ℕ) → length text ≤ at → None ≡ field_at text at
 unfolding field_at
 no_field_at_end text at h = rw (line_ends text at h)
 
-pub no_field_without_gap : (text : List ℕ) (at : ℕ) → at < length text → (get_or text at 0 ≡ space → ⊥) → Malformed ≡ field_at text at
+pub no_field_without_gap : (text : List ℕ) (at : ℕ) → at < length text → (get_or text at 0 ≡ space → ⊥) → None ≡ field_at text at
 unfolding field_at
 no_field_without_gap text at h e = rw (no_gap_begins text at h e)
 
 -- ---- A field by its first digit
 
 module _ (text : List ℕ) (at : ℕ) (gap : eqb (get_or (line_from text at) 0 0) space ≡ true) where
-  no_digit : word_from text (at + 1) ≡ [] → Malformed ≡ field_at text at
+  no_digit : word_from text (at + 1) ≡ [] → None ≡ field_at text at
   unfolding field_at number_keeps
   no_digit e = rw (gap, e)
 
-  pub no_digit_at_end : length text ≤ at + 1 → Malformed ≡ field_at text at
+  pub no_digit_at_end : length text ≤ at + 1 → None ≡ field_at text at
   no_digit_at_end h = no_digit (word_ends text (at + 1) (line_ends text (at + 1) h))
 
   module _ (inside : at + 1 < length text) where
-    pub no_first_digit : digit (get_or text (at + 1) 0) ≡ false → Malformed ≡ field_at text at
+    pub no_first_digit : digit (get_or text (at + 1) 0) ≡ false → None ≡ field_at text at
     unfolding field_at
     no_first_digit e = elim (eqb_cases (get_or text (at + 1) 0) line_feed) [
       | inl feed ↦ no_digit (separator_ends text (at + 1) inside (inl feed.1))
@@ -138,8 +137,8 @@ module _ (text : List ℕ) (at : ℕ) (gap : eqb (get_or (line_from text at) 0 0
         let word = digit_word text (at + 1) inside (omega arith) (omega arith) in
         rw (gap, word, e, keeps_zero (word_from text (at + 1 + 1))) (go (word_from text (at + 1 + 1)))
       where
-        go : (more : List ℕ) → cond (eqb (length more) 0) (Number 0 (at + 1 + 1)) Malformed
-            ≡ cond (eqb (length more) 0) (Number (decimal (48 ∷ more)) (at + 1 + length (48 ∷ more))) Malformed
+        go : (more : List ℕ) → cond (eqb (length more) 0) (Some (field 0 (at + 1 + 1))) None
+            ≡ cond (eqb (length more) 0) (Some (field (decimal (48 ∷ more)) (at + 1 + length (48 ∷ more)))) None
         go [] = refl
         go (byte ∷ more) = rw (eqb-suc-zero (length more))
 
@@ -157,11 +156,11 @@ module _ (text : List ℕ) (at : ℕ) (gap : eqb (get_or (line_from text at) 0 0
 -- ---- The end of a 0
 
 module _ (text : List ℕ) (end : ℕ) where
-  pub zero_ends : word_from text end ≡ [] → Number 0 end ≡ just_zero_lem text end
+  pub zero_ends : word_from text end ≡ [] → Some (field 0 end) ≡ just_zero_lem text end
   unfolding just_zero_lem
   zero_ends e = rw e
 
-  pub zero_goes_on : end < length text → ((get_or text end 0 ≡ line_feed) ⊎ (get_or text end 0 ≡ space) → ⊥) → Malformed ≡ just_zero_lem text end
+  pub zero_goes_on : end < length text → ((get_or text end 0 ≡ line_feed) ⊎ (get_or text end 0 ≡ space) → ⊥) → None ≡ just_zero_lem text end
   unfolding just_zero_lem
   zero_goes_on h other = rw (word_goes_on text end h (λ feed. other (inl feed)) (λ gap. other (inr gap)), eqb-suc-zero (length (word_from text (end + 1))))
 
@@ -183,24 +182,23 @@ module _ (text : List ℕ) (i value : ℕ) (inside : i < length text) (low : 48 
   end_left = rw word (omega arith)
 
   pub digits_left : every digit (word_from text (i + 1)) ≡ every digit (word_from text i)
-  unfolding every
-  digits_left = rw (word, every, digit_is (get_or text i 0) low high)
+  digits_left = rw (word, digit_is (get_or text i 0) low high)
 
   pub number_goes_on : number_from text (i + 1) with_digit ≡ number_from text i value
   unfolding number_from
   number_goes_on = rw (digits_left, value_left, end_left)
 
-  pub number_too_long : 999999 < value → Malformed ≡ number_from text i value
+  pub number_too_long : 999999 < value → None ≡ number_from text i value
   unfolding number_from
   number_too_long h =
       let long = le-ltb (decimal_from value (word_from text i)) 10000000 (omega (arith, decimal_grows with_digit (word_from text (i + 1)), value_left)) in
       rw (long, and-false)
 
 module _ (text : List ℕ) (i value : ℕ) where
-  pub number_ends : word_from text i ≡ [] → value < 10000000 → Number value i ≡ number_from text i value
-  unfolding number_from decimal_from every
-  number_ends e h = rw (e, lt-ltb value 10000000 h) (ap (Number value) (omega arith))
+  pub number_ends : word_from text i ≡ [] → value < 10000000 → Some (field value i) ≡ number_from text i value
+  unfolding number_from decimal_from
+  number_ends e h = rw (e, lt-ltb value 10000000 h) (ap (λ next. Some (field value next)) (omega arith))
 
-  pub number_stops : i < length text → ((get_or text i 0 ≡ line_feed) ⊎ (get_or text i 0 ≡ space) → ⊥) → digit (get_or text i 0) ≡ false → Malformed ≡ number_from text i value
-  unfolding number_from every
-  number_stops h other e = rw (word_goes_on text i h (λ feed. other (inl feed)) (λ gap. other (inr gap)), every, e)
+  pub number_stops : i < length text → ((get_or text i 0 ≡ line_feed) ⊎ (get_or text i 0 ≡ space) → ⊥) → digit (get_or text i 0) ≡ false → None ≡ number_from text i value
+  unfolding number_from
+  number_stops h other e = rw (word_goes_on text i h (λ feed. other (inl feed)) (λ gap. other (inr gap)), e)

@@ -5,6 +5,7 @@ use mathlib.Core.Path.{◌≡◌, refl, sym, ap, ◌∙◌}
 use mathlib.Core.Bool.{Bool, true, false, cond, ◌&&◌, and-false}
 use mathlib.Core.Logic.{◌⊎◌, inl, inr}
 use mathlib.Core.List.{List, [], ◌∷◌}
+use Rattle.std.specs.Prelude.{Some, None}
 use native.Mathlib.Omega.{arith}
 use lib.Dec.{eqb, eqb-zero-suc, eqb-suc-zero}
 use lib.ListN.{length, get_or, drop, length-drop}
@@ -15,8 +16,8 @@ use Rattle.model.proofs.Tests.{eqb_cases, ltb_cases}
 use Rattle.townfile.specs.Bytes.{line_feed, space, up_to, pieces}
 use Rattle.townfile.specs.Numbers.{decimal, number_keeps}
 use Rattle.townfile.proofs.Pieces.{pieces_next, pieces_behind}
-use Rattle.fields.specs.Fields.{line_from, word_from, field_keeps, field_at, fields_from, numbers_from, filled_by}
-use Rattle.fields.specs.declared.field.Field.TheVariants.{Number, Malformed}
+use Rattle.fields.specs.declared.field.Field.{Field}
+use Rattle.fields.specs.Fields.{line_from, word_from, field_keeps, field, field_at, fields_from, numbers_from, filled_by}
 use Rattle.fields.proofs.LineFrom.{line_ends, line_feed_ends, line_goes_on, line_later, up_to_length, up_to_behind}
 
 -- ---- A field that is a number
@@ -32,21 +33,29 @@ kept_field text at e =
     let parts = true_both (eqb (get_or (line_from text at) 0 0) space) (number_keeps (word_from text (at + 1))) e in
     record { gap = parts.0; form = parts.1; number = refl; behind = refl }
 
-pub field_read : (text : List ℕ) (at : ℕ) {value next : ℕ} → field_at text at ≡ Number value next → FieldRead text at value next
+pub field_read : (text : List ℕ) (at : ℕ) {number : Field} → field_at text at ≡ Some number → FieldRead text at number.value number.next
 unfolding field_at
-field_read text at {value} {next} e = go (eqb (get_or (line_from text at) 0 0) space) (number_keeps (word_from text (at + 1))) refl refl e
+field_read text at {number} e = go (eqb (get_or (line_from text at) 0 0) space) (number_keeps (word_from text (at + 1))) refl refl e
   where
+    value : ℕ
+    value = decimal (word_from text (at + 1))
+
+    next : ℕ
+    next = at + 1 + length (word_from text (at + 1))
+
     go : (gap form : Bool) → eqb (get_or (line_from text at) 0 0) space ≡ gap → number_keeps (word_from text (at + 1)) ≡ form →
-        cond (gap && form) (Number (decimal (word_from text (at + 1))) (at + 1 + length (word_from text (at + 1)))) Malformed ≡ Number value next → FieldRead text at value next
-    go true true g f e = record { gap = g; form = f; number = cc; behind = cc }
+        cond (gap && form) (Some (field value next)) None ≡ Some number → FieldRead text at number.value number.next
+    go true true g f e =
+        let same : field value next ≡ number = cc in
+        record { gap = g; form = f; number = ap (λ read. read.value) same; behind = ap (λ read. read.next) same }
     go true false g f e = absurd (let z : ◌≡◌ {A = ℕ} 0 1 = cc in omega arith)
     go false form g f e = absurd (let z : ◌≡◌ {A = ℕ} 0 1 = cc in omega arith)
 
-pub field_not_read : (text : List ℕ) (at : ℕ) → field_at text at ≡ Malformed → field_keeps text at ≡ false
+pub field_not_read : (text : List ℕ) (at : ℕ) → field_at text at ≡ None → field_keeps text at ≡ false
 unfolding field_at
 field_not_read text at e = go (field_keeps text at) e
   where
-    go : (kept : Bool) → cond kept (Number (decimal (word_from text (at + 1))) (at + 1 + length (word_from text (at + 1)))) Malformed ≡ Malformed → kept ≡ false
+    go : (kept : Bool) → cond kept (Some (field (decimal (word_from text (at + 1))) (at + 1 + length (word_from text (at + 1))))) None ≡ None → kept ≡ false
     go true e = absurd (let z : ◌≡◌ {A = ℕ} 0 1 = cc in omega arith)
     go false e = refl
 
@@ -118,7 +127,6 @@ module _ (text : List ℕ) (at : ℕ) (gap : eqb (get_or (line_from text at) 0 0
   gap_fields = rw (gap_line text at gap, pieces_behind space (line_from text (at + 1)), pieces_next space (line_from text (at + 1)))
 
   not_a_number : (count : ℕ) → number_keeps (word_from text (at + 1)) ≡ false → filled_by count text at ≡ false
-  unfolding every
   not_a_number count e = rw (gap_fields, e, and-false (eqb (length (word_from text at)) 0))
 
   one_too_many : filled_by 0 text at ≡ false
@@ -135,7 +143,7 @@ module _ (text : List ℕ) (at : ℕ) where
       go false e = rw e
 
   pub unfilled_without_field : (count : ℕ) → field_keeps text at ≡ false → filled_by (suc count) text at ≡ false
-  unfolding every pieces up_to
+  unfolding pieces up_to
   unfilled_without_field count e = unfilled (suc count) (λ empty. rw (empty, eqb-zero-suc count)) (λ gap. not_a_number text at gap (suc count) (rw gap at e))
 
   pub unfilled_before_end : eqb (length (line_from text at)) 0 ≡ false → filled_by 0 text at ≡ false

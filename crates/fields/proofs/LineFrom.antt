@@ -1,6 +1,6 @@
 -- A line from a place on: it ends at the text's end and at a line feed, and otherwise goes on by a byte. So does a word, which ends
 -- at a space too.
-use Prim.Native.Nat.{ℕ, zero, suc, ◌+◌, ◌-◌, ◌*◌, ◌≤◌, ◌<◌}
+use Prim.Native.Nat.{ℕ, zero, suc, ◌+◌, ◌-◌, ◌*◌, ◌≤◌, ◌<◌, max}
 use mathlib.Core.Path.{◌≡◌, refl, sym, ap, ◌∙◌}
 use mathlib.Core.Bool.{true, false}
 use mathlib.Core.Logic.{◌⊎◌, inl, inr}
@@ -11,7 +11,7 @@ use lib.Dec.{eqb}
 use lib.ListN.{length, get_or, drop, drop_of_length-le, length-drop}
 use lib.Seq.{drop-cons, get_or-drop, drop-drop, drop-length}
 use borrow.Author.Tests.{eq-eqb, ne_eqb}
-use Rattle.model.proofs.Tests.{eqb_cases}
+use Rattle.model.proofs.Tests.{eqb_cases, ltb_cases}
 use Rattle.townfile.specs.Bytes.{line_feed, space, up_to}
 use Rattle.townfile.specs.Lines.{first_two}
 use Rattle.fields.specs.Fields.{line_from, word_from}
@@ -157,3 +157,10 @@ up_to_behind separator bytes = up_to_later separator bytes (length (up_to separa
 pub line_later : (text : List ℕ) (at k : ℕ) → k ≤ length (line_from text at) → line_from text (at + k) ≡ drop k (line_from text at)
 unfolding line_from
 line_later text at k h = ap (up_to line_feed) (sym (drop-drop k at text)) ∙ up_to_later line_feed (drop at text) k h
+
+-- Where a loop from a place up to the text's end stops: at the end, or at a place behind it from which it has not gone on.
+pub at_last : (at size i : ℕ) → size ≤ i → (at ≤ size → i ≤ size) → (size ≤ at → i ≡ at) → max at size ≡ i
+at_last at size i past near far = elim (ltb_cases at size) [
+  | inl inside ↦ omega (arith, inside.1, near (omega (arith, inside.1)))
+  | inr outside ↦ omega (arith, outside.1, far outside.1)
+]

@@ -1,5 +1,5 @@
 // What stands at a place of a line: a field, the end, bytes that can be printed, a name. Nothing here reads past a line feed.
-ghost use Rattle.std.specs.Prelude.{◌≡◌, ◌+◌, ◌*◌, eqb, length};
+ghost use Rattle.std.specs.Prelude.{◌≡◌, ◌+◌, eqb, length};
 ghost use Rattle.townfile.specs.Lines.{first_two};
 ghost use Rattle.fields.specs.Fields.{line_from, field_at, printable_rest, name_rest_lem, name_at};
 ghost use Rattle.fields.specs.Code.Digits.{just_zero_lem, number_from};
@@ -7,46 +7,29 @@ ghost use Rattle.fields.specs.Code.Digits.{just_zero_lem, number_from};
 use townfile::limit::{MAX_NAME, MAX_OF_SIX_DIGITS};
 use townfile::mark::{LINE_FEED, NONE, SPACE};
 
-#[derive(Clone, Copy)]
-pub enum Field {
-    Number { value: u32, next: usize },
-    Malformed,
-}
-
-// The rest of a line, by where it ends.
-#[derive(Clone, Copy)]
-pub enum Rest {
-    Good(usize),
-    Malformed,
+// A number, and the place behind it.
+#[derive(Clone, Copy, Debug, PartialEq, Eq)]
+pub struct Field {
+    pub value: u32,
+    pub next: usize,
 }
 
 // The line feed that ends the line, or the text's end.
 pub fn line_end(text: &[u8], at: usize) -> usize
     ensures { result ≡ at + length (line_from text.now at) }
 {
-    let mut i = at;
-    while i < text.len() {
+    for i in at..text.len() {
         if text[i] == LINE_FEED {
             return i;
         }
-        i += 1;
     }
-    i
+    at.max(text.len())
 }
 
 pub fn at_line_end(text: &[u8], at: usize) -> bool
     ensures { result ≡ eqb (length (line_from text.now at)) 0 }
 {
-    if text.len() <= at {
-        return true;
-    }
-    text[at] == LINE_FEED
-}
-
-fn mark_of(first: u8, second: u8) -> u16
-    ensures { result ≡ first * 256 + second }
-{
-    (first as u16) * 256 + (second as u16)
+    text.len() <= at || text[at] == LINE_FEED
 }
 
 // The two bytes that begin a line, as one number.
@@ -66,130 +49,115 @@ pub fn mark_at(text: &[u8], at: usize) -> u16
     if text[second] == LINE_FEED {
         return NONE;
     }
-    mark_of(text[at], text[second])
+    u16::from_be_bytes([text[at], text[second]])
 }
 
 // A number that begins with 0 is just 0: a space follows, the line's end or the text's.
-fn just_zero(text: &[u8], end: usize) -> Field
+fn just_zero(text: &[u8], end: usize) -> Option<Field>
     ensures { result ≡ just_zero_lem text.now end }
 {
+    let zero = Some(Field {
+        value: 0,
+        next: end,
+    });
     if text.len() <= end {
-        return Field::Number {
-            value: 0,
-            next: end,
-        };
+        return zero;
     }
-    let byte = text[end];
-    match byte {
-        b' ' | b'\n' => Field::Number {
-            value: 0,
-            next: end,
-        },
-        _ => Field::Malformed,
+    match text[end] {
+        b' ' | b'\n' => zero,
+        _ => None,
     }
 }
 
 // What follows a first digit that is not 0. The value tells how many digits there are, so they are not counted.
-fn further_digits(text: &[u8], second: usize, digit: u8) -> Field
+fn further_digits(text: &[u8], second: usize, digit: u8) -> Option<Field>
     ensures { result ≡ number_from text.now second digit }
 {
     let mut value = digit as u32;
-    let mut i = second;
-    while i < text.len() {
+    for i in second..text.len() {
         let byte = text[i];
         match byte {
             b'0'..=b'9' => {
                 if MAX_OF_SIX_DIGITS < value {
-                    return Field::Malformed;
+                    return None;
                 }
                 value = value * 10 + ((byte - b'0') as u32);
             }
             b' ' | b'\n' => {
-                return Field::Number { value, next: i };
+                return Some(Field { value, next: i });
             }
             _ => {
-                return Field::Malformed;
+                return None;
             }
         }
-        i += 1;
     }
-    Field::Number { value, next: i }
+    Some(Field {
+        value,
+        next: second.max(text.len()),
+    })
 }
 
 // A space and a number up to the next space or the line's end.
-pub fn read_field(text: &[u8], at: usize) -> Field
+pub fn read_field(text: &[u8], at: usize) -> Option<Field>
     ensures { result ≡ field_at text.now at }
 {
-    if text.len() <= at {
-        return Field::Malformed;
-    }
-    if text[at] != SPACE {
-        return Field::Malformed;
+    if *text.get(at)? != SPACE {
+        return None;
     }
     let first = at + 1;
-    if text.len() <= first {
-        return Field::Malformed;
-    }
-    let byte = text[first];
+    let byte = *text.get(first)?;
     match byte {
         b'0' => just_zero(text, first + 1),
         b'1'..=b'9' => further_digits(text, first + 1, byte - b'0'),
-        _ => Field::Malformed,
+        _ => None,
     }
 }
 
 // The line's rest, if all of it can be printed.
-pub fn printable(text: &[u8], at: usize) -> Rest
+pub fn printable(text: &[u8], at: usize) -> Option<usize>
     ensures { result ≡ printable_rest text.now at }
 {
-    let mut i = at;
-    while i < text.len() {
+    for i in at..text.len() {
         let byte = text[i];
         match byte {
             b' '..=b'~' => {}
             b'\n' => {
-                return Rest::Good(i);
+                return Some(i);
             }
             _ => {
-                return Rest::Malformed;
+                return None;
             }
         }
-        i += 1;
     }
-    Rest::Good(i)
+    Some(at.max(text.len()))
 }
 
 // The line's rest, if it is a name.
-fn name_rest(text: &[u8], at: usize) -> Rest
+fn name_rest(text: &[u8], at: usize) -> Option<usize>
     ensures { result ≡ name_rest_lem text.now at }
 {
-    let Rest::Good(end) = printable(text, at) else {
-        return Rest::Malformed;
-    };
+    let end = printable(text, at)?;
     if end <= at {
-        return Rest::Malformed;
+        return None;
     }
     if MAX_NAME < end - at {
-        return Rest::Malformed;
+        return None;
     }
     if text[at] == SPACE {
-        return Rest::Malformed;
+        return None;
     }
     if text[end - 1] == SPACE {
-        return Rest::Malformed;
+        return None;
     }
-    Rest::Good(end)
+    Some(end)
 }
 
 // A space, and a name to the end of the line.
-pub fn name_at(text: &[u8], at: usize) -> Rest
+pub fn name_at(text: &[u8], at: usize) -> Option<usize>
     ensures { result ≡ name_at text.now at }
 {
-    if text.len() <= at {
-        return Rest::Malformed;
-    }
-    if text[at] != SPACE {
-        return Rest::Malformed;
+    if *text.get(at)? != SPACE {
+        return None;
     }
     name_rest(text, at + 1)
 }

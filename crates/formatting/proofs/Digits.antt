@@ -1,5 +1,5 @@
 -- The printed digits of a number: the last digit stands behind those of the number's tenth, and tenth by tenth they are read back.
-use Prim.Native.Nat.{ℕ, zero, suc, ◌+◌, ◌-◌, ◌*◌, ◌≤◌, ◌<◌, ◌/◌, ◌%◌}
+use Prim.Native.Nat.{ℕ, zero, suc, ◌+◌, ◌-◌, ◌*◌, ◌≤◌, ◌<◌, ◌/◌, ◌%◌, ◌^◌}
 use mathlib.Core.Path.{◌≡◌, refl, sym, ap, ◌∙◌}
 use mathlib.Core.Bool.{true}
 use mathlib.Core.Logic.{inl, inr}
@@ -8,6 +8,8 @@ use native.Mathlib.Nat.{div-add-mod', mod-lt, div-lt_self, div-lt_iff_lt-mul}
 use native.Mathlib.Omega.{arith}
 use lib.ListN.{length, get_or, length-append, get_or-append}
 use borrow.Author.Tests.{lt-ltb, le-ltb, le-leb}
+use Rattle.std.specs.Fmt.{decimal as printed}
+use Rattle.std.proofs.lemmas.Fmt.{decimal_by_steps}
 use Rattle.model.specs.Rules.{every}
 use Rattle.model.proofs.Rules.{both_true, true_both}
 use Rattle.model.proofs.Tests.{ltb_cases}
@@ -46,6 +48,11 @@ digits_more zero h = absurd (omega arith)
 digits_more (suc n) h =
     let below = tenth_below (suc n) h in
     rw (le-ltb (suc n) 10 h) (ap (λ digits. digits ++ ((48 + suc n % 10) ∷ [])) (within_settled n (suc n / 10) (suc n / 10) (omega arith) (omega arith)))
+
+-- The library prints them so.
+pub decimal_digits : (n : ℕ) → n < 2 ^ 64 → digits_of n ≡ printed n
+decimal_digits = decimal_by_steps (λ n digits. digits_of n ≡ digits) digits_one
+    (λ n digits more same. digits_more n more ∙ ap (λ tenth. tenth ++ ((48 + n % 10) ∷ [])) same)
 
 -- ---- Read back
 
@@ -102,12 +109,10 @@ some_within (suc k) n = elim (ltb_cases n 10) [
 ]
 
 every_append : (bytes more : List ℕ) → every digit bytes ≡ true → every digit more ≡ true → every digit (bytes ++ more) ≡ true
-unfolding every
 every_append [] more p q = q
 every_append (byte ∷ bytes) more p q = let parts = true_both (digit byte) (every digit bytes) p in both_true parts.0 (every_append bytes more parts.1 q)
 
 is_digit : (n : ℕ) → n < 10 → every digit ((48 + n) ∷ []) ≡ true
-unfolding every
 is_digit n h = both_true (both_true (le-leb 48 (48 + n) (omega arith)) (le-leb (48 + n) 57 (omega arith))) refl
 
 within_digits : (k n : ℕ) → n ≤ k → every digit (digits_within k n) ≡ true

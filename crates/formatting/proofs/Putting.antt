@@ -1,18 +1,21 @@
 -- Bytes put behind bytes are put together, where there is room for both: the buffer keeps its length. What is put from the start on
 -- is what the buffer then begins with.
-use Prim.Native.Nat.{ℕ, suc, ◌+◌, ◌≤◌, ◌<◌}
-use mathlib.Core.Path.{◌≡◌, refl, ap, ◌∙◌}
+use Prim.Native.Nat.{ℕ, suc, ◌+◌, ◌-◌, ◌≤◌}
+use mathlib.Core.Path.{◌≡◌, refl, sym, ap, ◌∙◌}
 use mathlib.Core.Bool.{Bool}
 use mathlib.Core.List.{List, [], ◌∷◌, ◌++◌}
-use native.Mathlib.Numerals.{add-one}
+use mathlib.Core.List.{append_assoc}
+use borrow.Rule.Slice.PartMut.{put_mid, Post-is}
 use native.Mathlib.Omega.{arith}
-use lib.ListN.{length, get_or, set, take, drop, length-append}
-use lib.Seq.{sets, sets-eq, length-sets, take-suc, take_all}
+use lib.ListN.{length, set, take, drop, length-append}
+use lib.Seq.{sets, sets-eq, length-sets}
 use Rattle.model.specs.Rules.{written}
 use Rattle.townfile.specs.FirstFault.{Reading}
 use Rattle.formatting.specs.Putting.{Put, PutIfRoom}
+use Rattle.formatting.specs.Output.{Puts}
 use Rattle.formatting.specs.Texts.{answer_text, is_refusal}
 use Rattle.formatting.specs.Printed.{Printed, PrintedAnswer}
+use Rattle.formatting.specs.declared.output.Output.{Output}
 use Rattle.formatting.specs.declared.text.Text.{Text}
 
 sets_append : (bytes more table : List ℕ) (at : ℕ) → sets (sets table at bytes) (at + length bytes) more ≡ sets table at (bytes ++ more)
@@ -34,26 +37,30 @@ module _ {bytes more before between after : List ℕ} {at middle behind : ℕ} w
       let same : length between ≡ length before = ap length p.holds ∙ length-sets before at bytes in
       put_then p (puts-more (omega (arith, p.next)))
 
--- ---- Nothing, and a byte more of a text
+module _ {bytes more : List ℕ} {before between after : Output} where
+  pub puts_then : Puts bytes before between → Puts more between after → Puts (bytes ++ more) before after
+  puts_then p q = record { lent = q.lent ∙ p.lent; puts = room_then p.puts q.puts }
+
+-- ---- Nothing, and a whole text
 
 pub nothing_put : (before : List ℕ) (at : ℕ) → PutIfRoom [] at before before at
 nothing_put before at room = record { next = omega arith; holds = refl }
 
-module _ (text : List ℕ) {before after : List ℕ} {at i behind : ℕ} where
-  pub byte_more : {between : List ℕ} {middle : ℕ} → i < length text → PutIfRoom (take i text) at before between middle →
-      PutIfRoom (get_or text i 0 ∷ []) middle between after behind → PutIfRoom (take (i + 1) text) at before after behind
-  byte_more h puts puts-byte = rw (add-one i, take-suc text i 0 h) (room_then puts puts-byte)
+-- A text's copy stands between what is before and what is behind it.
+text_put : (text before : List ℕ) (at : ℕ) → PutIfRoom text at before (take at before ++ (text ++ drop (at + length text) before)) (at + length text)
+text_put text before at room = record { next = refl; holds = sym (sets-eq text before at room ∙ append_assoc (take at before) text (drop (at + length text) before)) }
 
-  pub all_bytes : length text ≤ i → PutIfRoom (take i text) at before after behind → PutIfRoom text at before after behind
-  all_bytes h puts = rw (take_all i text h) at puts
+pub copied : {text copy before : List ℕ} {at : ℕ} → copy ≡ text →
+    PutIfRoom text at before (put_mid at (at + length text - at) before copy) (at + length text)
+copied {text} {copy} {before} {at} same = rw (same, Post-is at (at + length text) before (omega arith)) (text_put text before at)
 
 -- ---- A program's output
 
-pub put_printed : (refusal : Bool) {bytes before after : List ℕ} {behind : ℕ} → PutIfRoom bytes 0 before after behind → length bytes ≤ length before →
-    Printed bytes refusal before after (record { length = behind; refused = refusal })
-put_printed refusal {bytes} {before} puts h =
+pub puts_printed : (refusal : Bool) {bytes before : List ℕ} {start end : Output} → start.length ≡ 0 → start.buffer.now ≡ before → Puts bytes start end →
+    length bytes ≤ length before → Printed bytes refusal before end.buffer.now (record { length = end.length; refused = refusal })
+puts_printed refusal {bytes} {before} none same puts h =
     let from_start : 0 + length bytes ≡ length bytes = omega arith in
-    let p = puts (omega arith) in
+    let p = (rw (none, same) at puts.puts) (omega arith) in
     record {
       counted = p.next ∙ from_start;
       told = refl;

@@ -17,7 +17,7 @@ use Rattle.refusals.specs.Refusals.{number_of}
 use Rattle.refusals.specs.declared.refusal.Refusal.{Refusal}
 use Rattle.refusals.proofs.Refusals.{number_fits}
 use Rattle.formatting.specs.Digits.{digits_of}
-use Rattle.formatting.specs.Texts.{number_unless, refusal_text}
+use Rattle.formatting.specs.Texts.{number_unless, refusal_room, refusal_text}
 use Rattle.formatting.proofs.Digits.{tens, digits_short, digits_lack, same_digits}
 
 -- ---- A number or a dash
@@ -49,7 +49,7 @@ refusal_short : (number line : ℕ) → number < tens 10 → line < tens 10 → 
 refusal_short number line h h' = omega (arith, length_refusal number line, digits_short number 9 h, digits_short line 9 h')
 
 -- So every program's output has room for one.
-pub refusal_fits : (refusal : Refusal) (line : ℕ) → line < tens 10 → length (refusal_text (number_of refusal) line) ≤ 35
+pub refusal_fits : (refusal : Refusal) (line : ℕ) → line < tens 10 → length (refusal_text (number_of refusal) line) ≤ refusal_room
 refusal_fits refusal line h = refusal_short (number_of refusal) line (omega (arith, number_fits refusal)) h
 
 -- ---- Two texts up to a separator

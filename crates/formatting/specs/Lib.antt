@@ -1,4 +1,5 @@
 pub mod Digits
+pub mod Output
 pub mod Printed
 pub mod Putting
 pub mod Texts

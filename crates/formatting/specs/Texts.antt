@@ -18,6 +18,10 @@ line_word = 32 ∷ 108 ∷ 105 ∷ 110 ∷ 101 ∷ 32 ∷ []
 unfoldable pub refusal_text : ℕ → ℕ → List ℕ
 refusal_text number line = refused_word ++ (digits_of number ++ (line_word ++ (digits_of line ++ (line_feed ∷ []))))
 
+-- The room that is enough for one.
+abbrev pub refusal_room : ℕ
+refusal_room = 35
+
 -- A program prints a refusal's line, or what it has for the reply.
 abbrev pub answer_text : {Reply : Type 0} → (Reply → List ℕ) → Reading Reply → List ℕ
 answer_text print (refused_at number line) = refusal_text number line

@@ -4,77 +4,45 @@ ghost use Rattle.model.specs.Lent.{lent_network};
 ghost use Rattle.model.specs.declared.closure.Closure.{Closure};
 ghost use Rattle.index_bounds.specs.Fitting.{TablesFit, Fits};
 
-use checking::highest::highest_u16;
+use checking::highest::highest;
 use model::limit::{MAX_ARCS, MAX_INTERVALS, MAX_JUNCTIONS};
+use model::network::Network;
 use model::tick::Tick;
 
-fn tables_fit(
-    junctions: usize,
-    fences: &[u32],
-    tails: &[u16],
-    heads: &[u16],
-    lengths: &[u32],
-    holds: &[u16],
-    speeds: &[u8],
-) -> bool
-    ensures { (closures : List Closure) → (result ≡ true) ↔ TablesFit (lent_network junctions fences tails heads lengths holds speeds closures) }
+fn tables_fit(network: &Network) -> bool
+    ensures { (closures : List Closure) → (result ≡ true) ↔ TablesFit (lent_network network.now closures) }
 {
-    if MAX_JUNCTIONS < junctions {
+    let junctions = network.junctions;
+    let intervals = network.fences.len();
+    let arcs = network.tails.len();
+    if MAX_JUNCTIONS < junctions as usize || MAX_INTERVALS < intervals || MAX_ARCS < arcs {
         return false;
     }
-    if MAX_INTERVALS < fences.len() {
+    if network.heads.len() != arcs
+        || network.lengths.len() != arcs
+        || network.holds.len() != arcs
+        || network.speeds.len() != arcs * intervals
+    {
         return false;
     }
-    if MAX_ARCS < tails.len() {
-        return false;
-    }
-    if heads.len() != tails.len() {
-        return false;
-    }
-    if lengths.len() != tails.len() {
-        return false;
-    }
-    if holds.len() != tails.len() {
-        return false;
-    }
-    if speeds.len() != tails.len() * fences.len() {
-        return false;
-    }
-    if junctions <= highest_u16(tails) as usize {
-        return false;
-    }
-    (highest_u16(heads) as usize) < junctions
+    (highest(0, network.tails) as u32) < junctions && (highest(0, network.heads) as u32) < junctions
 }
 
 // The buffers are told by their lengths. Nothing is asked of closures: a record's arc is tested
 // before it is an index.
 pub fn fits(
-    junctions: usize,
-    fences: &[u32],
-    tails: &[u16],
-    heads: &[u16],
-    lengths: &[u32],
-    holds: &[u16],
-    speeds: &[u8],
+    network: &Network,
     source: usize,
     departure: u32,
     label_count: usize,
     predecessor_count: usize,
 ) -> bool
     ensures { (closures : List Closure) →
-        (result ≡ true) ↔ Fits (lent_network junctions fences tails heads lengths holds speeds closures) source departure label_count predecessor_count }
+        (result ≡ true) ↔ Fits (lent_network network.now closures) source departure label_count predecessor_count }
 {
-    if junctions <= source {
+    let junctions = network.junctions as usize;
+    if junctions <= source || Tick::LAST < departure {
         return false;
     }
-    if Tick::LAST < departure {
-        return false;
-    }
-    if label_count != junctions {
-        return false;
-    }
-    if predecessor_count != junctions {
-        return false;
-    }
-    tables_fit(junctions, fences, tails, heads, lengths, holds, speeds)
+    label_count == junctions && predecessor_count == junctions && tables_fit(network)
 }

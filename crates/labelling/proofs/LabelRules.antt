@@ -1,36 +1,30 @@
 -- Labels' rules: where a rule is broken, the call is refused and the buffers are as they were; where none is, the plain
 -- conditions hold, and demand 2 holds of the buffers that the call leaves.
-use Prim.Native.Nat.{ℕ}
+use Prim.Native.Nat.{ℕ, ◌≤◌}
 use mathlib.Core.Path.{◌≡◌, refl, sym, ap, ◌∙◌}
 use mathlib.Core.Bool.{true, not, ◌&&◌}
 use mathlib.Core.List.{List, ◌++◌}
 use lib.Dec.{eqb}
-use lib.ListN.{length}
+use lib.ListN.{length, length-map}
+use native.Mathlib.Omega.{arith}
 use borrow.Author.Tests.{not-false, eqb-true, eq-eqb}
-use Rattle.model.specs.Network.{Network, closed_by, network_for, net_of}
+use Rattle.std.proofs.lemmas.Bool.Decides.{nat_tests}
+use Rattle.std.proofs.lemmas.Result.{err_from_is_err_and}
+use Rattle.model.specs.Closures.{max_closures, closure_of, closures_of}
+use Rattle.model.specs.Network.{Network, closed_by, network_for}
 use Rattle.model.specs.Parties.{KnownAsker, closures_for}
-use Rattle.model.specs.Labels.{labels_of, predecessors_of}
 use Rattle.model.specs.Rules.{AllKept, Outcome, refused, replied, Rule, first_broken}
-use Rattle.model.specs.declared.closure.Closure.{Closure}
 use Rattle.model.proofs.Demands.{demand_2, only_tables_of_network}
 use Rattle.model.proofs.SameDrives.{closures_are_union}
 use Rattle.model.proofs.Rules.{kept_replies, replies_kept, refused_at_law, refused_before, kept_before, kept_append, both_true, true_both}
 use Rattle.checking.specs.Question.{question_rules, question_check_lem}
 use Rattle.checking.proofs.QuestionRules.{kept_taken, taken_kept, taken_for}
-use Rattle.dijkstra.specs.Labelable.{Labelable, LabelsLeft, PredecessorsLeft}
-use Rattle.labelling.specs.Labels.{buffer_rules, labels_answer, labels_after, predecessors_after, LabelsRepliesWhenLabelable, Demand2OfCall, SameClosedOfCall}
+use Rattle.dijkstra.specs.Labelable.{Labelable}
+use Rattle.labelling.specs.Labels.{buffer_rules, labels_answer, LabelsRepliesWhenLabelable, Demand2OfCall, SameClosedOfCall}
 
 module _ (N : Network) (asker source departure : ℕ) (labels predecessors : List ℕ) where
   abbrev answer : Outcome (Unit {0})
   answer = labels_answer N asker source departure labels predecessors
-
-  -- An answer together with what the buffers hold afterwards.
-  abbrev Ends : Outcome (Unit {0}) → List ℕ → List ℕ → Type 0
-  Ends outcome labels' predecessors' = (outcome ≡ answer)
-      × ((labels' ≡ labels_after N asker source departure labels predecessors) × (predecessors' ≡ predecessors_after N asker source departure labels predecessors))
-
-  pub ends_refused : {number : ℕ} → refused number ≡ answer → Ends (refused number) labels predecessors
-  ends_refused e = (e, (rw (← e), rw (← e)))
 
   abbrev buffers : List Rule
   buffers = buffer_rules N labels predecessors
@@ -50,6 +44,10 @@ module _ (N : Network) (asker source departure : ℕ) (labels predecessors : Lis
 
     pub replies : AllKept buffers → answer ≡ replied tt
     replies kept = rest_decides ∙ kept_replies buffers tt kept
+
+  pub past_question : replied tt ≡ question_check_lem N asker source departure → answer ≡ first_broken buffers tt
+  unfolding question_check_lem
+  past_question is = rest_decides (replies_kept (question_rules N asker source departure) tt tt (sym is))
 
   kept_labelable : AllKept (question_rules N asker source departure) → AllKept buffers → Labelable N source departure labels predecessors
   kept_labelable question kept =
@@ -75,22 +73,18 @@ module _ (N : Network) (asker source departure : ℕ) (labels predecessors : Lis
       let kept = kept_append (question_rules N asker source departure) buffers (replies_kept (question_rules N asker source departure ++ buffers) tt tt e) in
       ((kept_taken N asker source departure kept.0).0, kept_labelable kept.0 kept.1)
 
-  pub ends_written : {labels' predecessors' : List ℕ} → answer ≡ replied tt →
-      labels' ≡ labels_of (net_of (network_for N asker)) source departure → predecessors' ≡ predecessors_of (net_of (network_for N asker)) source departure →
-      Ends (replied tt) labels' predecessors'
-  ends_written e l p = (sym e, (rw e l, rw e p))
-
   -- What can be labelled can be on the network as the asker finds it.
   pub labelable_for : Labelable N source departure labels predecessors → Labelable (network_for N asker) source departure labels predecessors
   labelable_for q = record { taken = taken_for asker q.taken; labels_long = q.labels_long; predecessors_long = q.predecessors_long }
 
-  -- The labelling, lent the records that stop the asker, has written both tables.
-  pub ends_labelled : (closures : List Closure) {labels' predecessors' : List ℕ} → closures ≡ closures_for asker N.closures → answer ≡ replied tt →
-      LabelsLeft (closed_by N closures) source departure labels predecessors labels' →
-      PredecessorsLeft (closed_by N closures) source departure labels predecessors predecessors' → Ends (replied tt) labels' predecessors'
-  ends_labelled closures same e labels-left predecessors-left =
-      let labelable = labelable_for (answered e).1 in
-      ends_written e ((rw same at labels-left).when_labelable labelable) ((rw same at predecessors-left).when_labelable labelable)
+  -- A call that replies lends on the rows of its list that stop the asker, since the list is not too long; and with these alone the network can be labelled.
+  module _ (rows stopping : List (List ℕ)) (replied_is : replied tt ≡ answer) (are : N.closures ≡ closures_of rows)
+      (stop : length rows ≤ max_closures → closures_of stopping ≡ closures_for asker (closures_of rows)) where
+    pub stopping_rows : closures_of stopping ≡ closures_for asker N.closures
+    stopping_rows = rw are (stop (omega (arith, (answered (sym replied_is)).1.taken.closures_kept.at_most, ap length are, length-map rows closure_of)))
+
+    pub labelable_stopping : Labelable (closed_by N (closures_of stopping)) source departure labels predecessors
+    labelable_stopping = rw stopping_rows (labelable_for (answered (sym replied_is)).1)
 
 -- ---- The statements
 
@@ -109,3 +103,7 @@ pub same_closed_of_call : SameClosedOfCall
 same_closed_of_call N closures asker alike source departure labels predecessors first second =
     let (same_labels, same_predecessors, _) = closures_are_union (network_for N asker) (closures_for asker closures) alike source departure in
     (rw (first, second) same_labels, rw (first, second) same_predecessors)
+
+-- ---- What the check's goals need after the question's own rules
+
+pub ruleset past_question_steps = (question_refuses, past_question, err_from_is_err_and, nat_tests)

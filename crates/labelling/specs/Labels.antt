@@ -10,17 +10,9 @@ use Rattle.model.specs.Parties.{KnownAsker, closures_for}
 use Rattle.model.specs.declared.closure.Closure.{Closure}
 use Rattle.model.specs.Labels.{labels_of, predecessors_of, Certified, Lowest}
 use Rattle.model.specs.Walks.{Earliest}
-use Rattle.refusals.specs.Refusals.{number_of}
-use Rattle.model.specs.Rules.{Outcome, refused, replied, Rule, ◌if◌, first_broken, after}
+use Rattle.model.specs.Rules.{Outcome, replied, Rule, ◌if◌, first_broken, after}
 use Rattle.checking.specs.Question.{question_rules}
 use Rattle.dijkstra.specs.Labelable.{Labelable}
-use Rattle.labelling.specs.declared.labels.Labelled.{Labelled}
-use Rattle.labelling.specs.declared.labels.Labelled.TheVariants.{Written, Refused}
-
--- The answer's number.
-abbrev pub outcome_of : Labelled → Outcome (Unit {0})
-outcome_of Written = replied tt
-outcome_of (Refused refusal) = refused (number_of refusal)
 
 -- The rule on the buffers, after those of the question.
 abbrev pub buffer_rules : Network → List ℕ → List ℕ → List Rule

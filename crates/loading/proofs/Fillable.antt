@@ -190,7 +190,7 @@ lines_end lines at h = elim (ltb_cases (at + length (line_from (joined lines) at
 ]
 
 pub accepted_fillable : (text : List ℕ) → Bytes text → (p : Progress) → first_fault text ≡ accepted p → (lent : Tables) → is_too_short (counts_of p) lent ≡ false →
-    Fillable p.intervals p.held text lent.fences lent.tails lent.heads lent.lengths lent.holds lent.speeds
+    Fillable p.intervals p.held text lent
 unfolding load_answer first_fault
 accepted_fillable text bytes p e lent long =
     let loaded : load_answer text lent ≡ accepted (counts_of p) = rw (e, long) in

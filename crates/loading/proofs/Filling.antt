@@ -1,6 +1,6 @@
 -- Filling the tables line by line: each table stores what the lines left give, behind what it has, so that storing what is left comes
 -- to storing all. What is left is told by the lines of a mark, from a place on.
-use Prim.Native.Nat.{ℕ, suc, ◌+◌, ◌*◌, ◌≤◌, ◌<◌}
+use Prim.Native.Nat.{ℕ, suc, ◌+◌, ◌*◌, ◌≤◌}
 use mathlib.Core.Path.{◌≡◌, refl, sym, ap, ◌∙◌}
 use mathlib.Core.Bool.{Bool, true, cond}
 use mathlib.Core.List.{List, [], ◌∷◌, ◌++◌, map, flatten}
@@ -17,7 +17,7 @@ use Rattle.townfile.specs.Lines.{mark_fn, mark_ar, mark_of, mark_alone, fields_o
 use Rattle.townfile.specs.Tables.{arc_of, town_of}
 use Rattle.townfile.specs.Load.{Tables, tables, holding}
 use Rattle.fields.specs.Fields.{line_from, numbers_from}
-use Rattle.loading.specs.Code.Filling.{EndsInside, NumbersFill, ArcFills, FencesLine, ArcLine, Fillable}
+use Rattle.loading.specs.Code.Filling.{EndsInside, NumbersFill, ArcFills, ArcHasRoom, with_arc, FencesLine, ArcLine, Fillable}
 use Rattle.fields.proofs.BehindMark.{BehindMark}
 use Rattle.loading.proofs.MarkedFrom.{marked_from, none_left, this_marked, this_unmarked}
 
@@ -157,24 +157,20 @@ module _ {intervals : ℕ} {held : Bool} {allFences allArcs : List (List ℕ)} {
     unfolding flatten
     speeds_room = omega (arith, filled.speeds_filled.room, speeds_count, length-append (take intervals (drop 3 (numbers_of line))) (speeds_of intervals arcs))
 
-    arc_stored : (tails heads lengths holds speeds : List ℕ) → tails ≡ set lent.tails arc (get_or (numbers_of line) 0 0) →
-        heads ≡ set lent.heads arc (get_or (numbers_of line) 1 0) →
-        lengths ≡ set lent.lengths arc (get_or (numbers_of line) 2 0) → holds ≡ set lent.holds arc (get_or (drop 3 (numbers_of line)) intervals 0) →
-        speeds ≡ sets lent.speeds (arc * intervals) (take intervals (drop 3 (numbers_of line))) →
-        TablesFilled intervals held allFences allArcs before fences arcs fence (arc + 1) (tables lent.fences tails heads lengths holds speeds)
+    arc_stored : {numbers : List ℕ} → numbers ≡ numbers_of line → TablesFilled intervals held allFences allArcs before fences arcs fence (arc + 1) (with_arc intervals arc numbers lent)
     unfolding flatten Each
-    arc_stored tails heads lengths holds speeds t h l d s = record {
+    arc_stored e = rw e (record {
       fences_left = filled.fences_left;
       arcs_left = filled.arcs_left.1;
       fences_filled = filled.fences_filled;
-      tails_filled = entries_filled (get_or (numbers_of line) 0 0 ∷ []) (tails_of intervals arcs) tails (arc + 1) filled.tails_filled refl t refl;
-      heads_filled = entries_filled (get_or (numbers_of line) 1 0 ∷ []) (heads_of intervals arcs) heads (arc + 1) filled.heads_filled refl h refl;
-      lengths_filled = entries_filled (get_or (numbers_of line) 2 0 ∷ []) (lengths_of intervals arcs) lengths (arc + 1) filled.lengths_filled refl l refl;
-      holds_filled = entries_filled (get_or (drop 3 (numbers_of line)) intervals 0 ∷ []) (holds_of intervals arcs) holds (arc + 1) filled.holds_filled refl d refl;
+      tails_filled = entries_filled (get_or (numbers_of line) 0 0 ∷ []) (tails_of intervals arcs) _ (arc + 1) filled.tails_filled refl refl refl;
+      heads_filled = entries_filled (get_or (numbers_of line) 1 0 ∷ []) (heads_of intervals arcs) _ (arc + 1) filled.heads_filled refl refl refl;
+      lengths_filled = entries_filled (get_or (numbers_of line) 2 0 ∷ []) (lengths_of intervals arcs) _ (arc + 1) filled.lengths_filled refl refl refl;
+      holds_filled = entries_filled (get_or (drop 3 (numbers_of line)) intervals 0 ∷ []) (holds_of intervals arcs) _ (arc + 1) filled.holds_filled refl refl refl;
       speeds_filled =
-          entries_filled (take intervals (drop 3 (numbers_of line))) (speeds_of intervals arcs) speeds ((arc + 1) * intervals) filled.speeds_filled refl s
+          entries_filled (take intervals (drop 3 (numbers_of line))) (speeds_of intervals arcs) _ ((arc + 1) * intervals) filled.speeds_filled refl refl
           (omega (arith, speeds_count));
-    }
+    })
 
 -- ---- The text from a place on
 
@@ -187,8 +183,7 @@ FilledBut intervals held text before fences arcs fence arc lent =
 abbrev pub FilledFrom : ℕ → Bool → List ℕ → Tables → ℕ → ℕ → ℕ → Tables → Type 0
 FilledFrom intervals held text before at fence arc lent = FilledBut intervals held text before (marked_from mark_fn text at) (marked_from mark_ar text at) fence arc lent
 
-pub fillable_starts : {intervals : ℕ} {held : Bool} {text fences tails heads lengths holds speeds : List ℕ} → Fillable intervals held text fences tails heads lengths holds speeds →
-    FilledFrom intervals held text (tables fences tails heads lengths holds speeds) 0 0 0 (tables fences tails heads lengths holds speeds)
+pub fillable_starts : {intervals : ℕ} {held : Bool} {text : List ℕ} {lent : Tables} → Fillable intervals held text lent → FilledFrom intervals held text lent 0 0 0 lent
 unfolding town_of
 fillable_starts {intervals = intervals} fillable =
     let own = fillable.intervals_are in
@@ -229,27 +224,22 @@ module _ {intervals : ℕ} {held : Bool} (text : List ℕ) {before : Tables} (at
     arc_first next e =
         rw (this_marked mark_ar (λ z. omega arith) text at next e is, this_unmarked mark_fn (λ z. omega arith) text at next e (λ a. omega arith)) at filled
 
-    pub arc_asked : EndsInside text at → ArcFills intervals held text (at + 2) ×
-        ((arc < length lent.tails)
-        × ((arc < length lent.heads) × ((arc < length lent.lengths) × ((arc < length lent.holds) × (arc * intervals + intervals ≤ length lent.speeds)))))
+    pub arc_asked : EndsInside text at → ArcFills intervals held text (at + 2) × ArcHasRoom intervals arc lent
     arc_asked ends =
         let first = arc_first (at + length (line_from text at) + 1) refl in (
           arc_behind behind ends intervals held (this_arc first),
-          (
-            omega (arith, first.tails_filled.room),
-            (omega (arith, first.heads_filled.room), (omega (arith, first.lengths_filled.room), (omega (arith, first.holds_filled.room), speeds_room first))),
-          ),
+          record {
+            tail_inside = omega (arith, first.tails_filled.room);
+            head_inside = omega (arith, first.heads_filled.room);
+            length_inside = omega (arith, first.lengths_filled.room);
+            hold_inside = omega (arith, first.holds_filled.room);
+            speeds_inside = speeds_room first;
+          },
         )
 
-    pub arc_next : (next : ℕ) → next ≡ at + 2 + length (line_from text (at + 2)) + 1 → (tails heads lengths holds speeds : List ℕ) →
-        tails ≡ set lent.tails arc (get_or (numbers_from text (at + 2)) 0 0) → heads ≡ set lent.heads arc (get_or (numbers_from text (at + 2)) 1 0) →
-        lengths ≡ set lent.lengths arc (get_or (numbers_from text (at + 2)) 2 0) → holds ≡ set lent.holds arc (get_or (drop 3 (numbers_from text (at + 2))) intervals 0) →
-        speeds ≡ sets lent.speeds (arc * intervals) (take intervals (drop 3 (numbers_from text (at + 2)))) →
-        FilledFrom intervals held text before next fence (arc + 1) (tables lent.fences tails heads lengths holds speeds)
-    arc_next next e tails heads lengths holds speeds t h l d s =
-        let numbers = numbers_behind behind in
-        arc_stored (arc_first next (omega (arith, ap length behind.line_is))) tails heads lengths holds speeds
-        (rw numbers at t) (rw numbers at h) (rw numbers at l) (rw numbers at d) (rw numbers at s)
+    pub arc_next : (next : ℕ) → next ≡ at + 2 + length (line_from text (at + 2)) + 1 → (after : Tables) →
+        after ≡ with_arc intervals arc (numbers_from text (at + 2)) lent → FilledFrom intervals held text before next fence (arc + 1) after
+    arc_next next e after stored = rw stored (arc_stored (arc_first next (omega (arith, ap length behind.line_is))) (numbers_behind behind))
 
   -- Where they begin with another.
   pub other_next : (mark_of (line_from text at) ≡ mark_fn → ⊥) → (mark_of (line_from text at) ≡ mark_ar → ⊥) → (next : ℕ) → next ≡ at + length (line_from text at) + 1 →
@@ -258,7 +248,7 @@ module _ {intervals : ℕ} {held : Bool} (text : List ℕ) {before : Tables} (at
       rw (this_unmarked mark_fn (λ z. omega arith) text at next e no-fences, this_unmarked mark_ar (λ z. omega arith) text at next e has_no_arc) at filled
 
   -- Where none is left.
-  pub filled_whole : length text ≤ at → Fillable intervals held text before.fences before.tails before.heads before.lengths before.holds before.speeds →
+  pub filled_whole : length text ≤ at → Fillable intervals held text before →
       lent ≡ holding (network_of (town_of text)) before
   unfolding town_of flatten
   filled_whole past fillable =

@@ -3,3 +3,4 @@
 
 mod fill;
 pub mod load;
+pub mod town;

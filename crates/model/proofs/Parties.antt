@@ -72,7 +72,6 @@ module _ (asker : ℕ) where
       go false e = e
 
   every_for : (keeps : Closure → Bool) (closures : List Closure) → every keeps closures ≡ true → every keeps (closures_for asker closures) ≡ true
-  unfolding every
   every_for keeps [] e = refl
   every_for keeps (c ∷ closures) e =
       let (first, rest) = true_both (keeps c) (every keeps closures) e in

@@ -1,7 +1,6 @@
 -- "Fences are the ticks at which intervals start. The first is 0, each is greater than the one before, all are below
 -- 864,000. An interval contains its own fence and not the next one." Document 02, order 2: "Plans start again at midnight."
-use Rattle.std.specs.Prelude.{ℕ, suc, ◌+◌, ◌-◌, ◌%◌, ◌≤◌, ◌<◌, ◌≡◌, Bool, ◌&&◌, cond, List, [], ◌∷◌, ◌↔◌, leb, ltb, length, get_or}
-use Rattle.std.proofs.Math.Option.{Option, none, some}
+use Rattle.std.specs.Prelude.{ℕ, suc, ◌+◌, ◌-◌, ◌%◌, ◌≤◌, ◌<◌, ◌≡◌, Bool, ◌&&◌, cond, List, [], ◌∷◌, ◌↔◌, leb, ltb, length, get_or, Option, None, Some}
 use Rattle.model.specs.Ticks.{day, last, never}
 
 pub record FencesKept (fences : List ℕ) : Type 0 where
@@ -29,7 +28,7 @@ interval_after_lem intervals k = cond (ltb (suc k) intervals) (suc k) 0
 -- Document 02, order 3: the interval of an arrival is given back "beside the tick, as the number, counted from 0, of the interval that contains
 -- the arrival tick's remainder by 864,000". There is none where there is no tick up to the last.
 abbrev pub tick_and_interval? : List ℕ → ℕ → Option (ℕ × ℕ)
-tick_and_interval? fences t = cond (leb t last) (some (t, interval_of_lem fences t)) none
+tick_and_interval? fences t = cond (leb t last) (Some (t, interval_of_lem fences t)) None
 
 -- Document 02, order 3: "The engines pass it on when they leave the next junction." Beside each label that is reached stands its interval.
 abbrev pub Beside : List ℕ → List ℕ → List ℕ → Type 0

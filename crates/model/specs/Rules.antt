@@ -2,8 +2,8 @@
 use Rattle.std.specs.Prelude.{ℕ, Bool, true, ◌&&◌, List, [], ◌∷◌, ◌++◌, leb, ltb, eqb, length, drop}
 use Rattle.model.specs.Ticks.{day}
 use Rattle.model.specs.Limits.{max_intervals, max_length, max_speed, max_hold}
-pub use Rattle.refusals.specs.Rules.{Outcome, refused, replied, Rule, ◌if◌, after, replying, AllKept, RefusedExactlyWhen}
-unfoldable pub use Rattle.refusals.specs.Rules.{first_broken, every}
+pub use Rattle.refusals.specs.Rules.{Outcome, refused, replied, Rule, ◌if◌, after, replying, every, AllKept, RefusedExactlyWhen}
+unfoldable pub use Rattle.refusals.specs.Rules.{first_broken}
 
 -- The entries at the table's start, and what stood behind them.
 abbrev pub written : List ℕ → List ℕ → List ℕ

@@ -1,8 +1,6 @@
 -- "A tick is a tenth of a second. Two constants belong to the tick itself: the day, 864,000, and the last tick, 1,728,000."
-use Rattle.std.specs.Prelude.{ℕ, cond, leb}
-use Rattle.std.proofs.Math.Option.{Option, none, some}
+use Rattle.std.specs.Prelude.{ℕ, cond, leb, Option, None, Some}
 use Rattle.model.specs.declared.tick.Arrival.{Arrival}
-use Rattle.model.specs.declared.tick.Arrival.TheVariants.{At, Never}
 
 abbrev pub day : ℕ
 day = 864000
@@ -18,7 +16,7 @@ never = 4294967295
 abbrev pub tick_by_last : ℕ → ℕ
 tick_by_last t = cond (leb t last) t never
 
--- What the type `Arrival` says: the tick and its interval, if there is a tick.
-abbrev pub arrived_at : Arrival → Option (ℕ × ℕ)
-arrived_at (At t interval) = some (t.number, interval)
-arrived_at Never = none
+-- What driving an arc comes to: the tick and its interval, if there is an arrival.
+abbrev pub arrived_at : Option Arrival → Option (ℕ × ℕ)
+arrived_at (Some arrival) = Some (arrival.tick.number, arrival.interval)
+arrived_at None = None

@@ -5,5 +5,6 @@
 pub mod closure;
 pub mod label;
 pub mod limit;
+pub mod network;
 pub mod party;
 pub mod tick;

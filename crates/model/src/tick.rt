@@ -1,7 +1,7 @@
 // The tick of the model, and what driving an arc ends in.
 
 // A tick is a tenth of a second, counted from the start of the first day.
-#[derive(Clone, Copy)]
+#[derive(Clone, Copy, Debug, PartialEq, Eq, PartialOrd, Ord)]
 pub struct Tick {
     pub number: u32,
 }
@@ -13,9 +13,9 @@ impl Tick {
     pub const LAST: u32 = 1_728_000;
 }
 
-// The arrival on an arc: a tick with the number of the interval that contains it, or none up to the last tick.
-#[derive(Clone, Copy)]
-pub enum Arrival {
-    At { tick: Tick, interval: usize },
-    Never,
+// An arrival on an arc, with the number of the interval that contains its tick. Where an arc cannot be driven by the last tick there is none.
+#[derive(Clone, Copy, Debug, PartialEq, Eq)]
+pub struct Arrival {
+    pub tick: Tick,
+    pub interval: usize,
 }

@@ -20,10 +20,9 @@ use Rattle.townfile.specs.FirstFault.{refused_at, accepted, start, onward, lines
 use Rattle.townfile.specs.Name.{part, names_it, place_among, name_place_lem}
 use Rattle.townfile.specs.declared.progress.Progress.{Progress}
 use Rattle.townfile.proofs.NameForm.{keeps_name}
-use Rattle.fields.specs.Fields.{line_from, word_from, field_at}
+use Rattle.fields.specs.Fields.{line_from, word_from, field, field_at}
 use Rattle.naming.specs.Code.Naming.{LineNames, name_start_lem}
-use Rattle.fields.specs.declared.field.Field.TheVariants as field
-use Rattle.naming.specs.declared.name.NameStart.TheVariants.{At, Other}
+use Rattle.std.specs.Prelude.{Some, None}
 use Rattle.fields.proofs.LineFrom.{line_later, up_to_behind}
 use Rattle.fields.proofs.FieldsLeft.{no_word}
 use Rattle.scanning.proofs.RestLines.{lines_behind, next_lines, last_line}
@@ -87,50 +86,53 @@ module _ (text : List ℕ) (at : ℕ) (named : LineNames (line_from text at)) (i
       ]
 
   -- Its number is the field behind the mark.
-  number_field_law : field_at text (at + 2) ≡ field.Number (decimal (number_field (line_from text at))) (at + 2 + 1 + length (number_field (line_from text at)))
+  number_field_law : field_at text (at + 2) ≡ Some (field (decimal (number_field (line_from text at))) (at + 2 + 1 + length (number_field (line_from text at))))
   unfolding field_at
   number_field_law =
       let behind : line_from text (at + 2 + 1) ≡ drop 3 (line_from text at) = ap (line_from text) (omega arith) ∙ line_later text at 3 (omega (arith, name_begins)) in
       rw (gap_behind, behind, named.number is)
 
-  pub field_not_malformed : field_at text (at + 2) ≡ field.Malformed → ⊥
+  pub field_not_malformed : field_at text (at + 2) ≡ None → ⊥
   field_not_malformed e = let z : ◌≡◌ {A = ℕ} 0 1 = cc number_field_law in omega arith
 
-  module _ {value next : ℕ} (e : field_at text (at + 2) ≡ field.Number value next) where
+  module _ {value next : ℕ} (e : field_at text (at + 2) ≡ Some (field value next)) where
+    field_is : field (decimal (number_field (line_from text at))) (at + 2 + 1 + length (number_field (line_from text at))) ≡ field value next
+    field_is = cc number_field_law
+
     value_is : decimal (number_field (line_from text at)) ≡ value
-    value_is = cc number_field_law
+    value_is = ap (λ read. read.value) field_is
 
     pub next_is : at + 2 + 1 + length (number_field (line_from text at)) ≡ next
-    next_is = cc number_field_law
+    next_is = ap (λ read. read.next) field_is
 
-    pub other_junction : (junction : ℕ) → (value ≡ junction → ⊥) → Other ≡ name_start_lem text at junction
+    pub other_junction : (junction : ℕ) → (value ≡ junction → ⊥) → None ≡ name_start_lem text at junction
     unfolding name_start_lem
     other_junction junction other = rw (eq-eqb (mark_of (line_from text at)) mark_jn is, value_is, ne_eqb value junction other)
 
-    pub this_junction : (junction : ℕ) → value ≡ junction → At (next + 1) ≡ name_start_lem text at junction
+    pub this_junction : (junction : ℕ) → value ≡ junction → Some (next + 1) ≡ name_start_lem text at junction
     unfolding name_start_lem
-    this_junction junction same = rw (eq-eqb (mark_of (line_from text at)) mark_jn is, value_is, eq-eqb value junction same) (ap At (omega (arith, next_is)))
+    this_junction junction same = rw (eq-eqb (mark_of (line_from text at)) mark_jn is, value_is, eq-eqb value junction same) (ap Some (omega (arith, next_is)))
 
-pub other_mark : (text : List ℕ) (at junction : ℕ) → (mark_of (line_from text at) ≡ mark_jn → ⊥) → Other ≡ name_start_lem text at junction
+pub other_mark : (text : List ℕ) (at junction : ℕ) → (mark_of (line_from text at) ≡ mark_jn → ⊥) → None ≡ name_start_lem text at junction
 unfolding name_start_lem
 other_mark text at junction other = rw (ne_eqb (mark_of (line_from text at)) mark_jn other)
 
 -- ---- What an answer tells
 
 module _ (text : List ℕ) (at junction : ℕ) where
-  start_other : name_start_lem text at junction ≡ Other → names_it junction (line_from text at) ≡ false
+  start_other : name_start_lem text at junction ≡ None → names_it junction (line_from text at) ≡ false
   unfolding name_start_lem
   start_other e = go (names_it junction (line_from text at)) e
     where
-      go : (named : Bool) → cond named (At (at + (length (number_field (line_from text at)) + 4))) Other ≡ Other → named ≡ false
+      go : (named : Bool) → cond named (Some (at + (length (number_field (line_from text at)) + 4))) None ≡ None → named ≡ false
       go true e = absurd (let z : ◌≡◌ {A = ℕ} 0 1 = cc in omega arith)
       go false e = refl
 
-  start_at : {from : ℕ} → name_start_lem text at junction ≡ At from → (names_it junction (line_from text at) ≡ true) × (at + (length (number_field (line_from text at)) + 4) ≡ from)
+  start_at : {from : ℕ} → name_start_lem text at junction ≡ Some from → (names_it junction (line_from text at) ≡ true) × (at + (length (number_field (line_from text at)) + 4) ≡ from)
   unfolding name_start_lem
   start_at {from} e = go (names_it junction (line_from text at)) e
     where
-      go : (named : Bool) → cond named (At (at + (length (number_field (line_from text at)) + 4))) Other ≡ At from →
+      go : (named : Bool) → cond named (Some (at + (length (number_field (line_from text at)) + 4))) None ≡ Some from →
           (named ≡ true) × (at + (length (number_field (line_from text at)) + 4) ≡ from)
       go true e = (refl, cc)
       go false e = absurd (let z : ◌≡◌ {A = ℕ} 0 1 = cc in omega arith)
@@ -145,9 +147,6 @@ pub record NamesLeft (text : List ℕ) (junction at : ℕ) : Type 0 where
 same_part : {a b m n : ℕ} → a ≡ b → m ≡ n → part a m ≡ part b n
 same_part e f = cc
 
-pub all_left : (text : List ℕ) (junction : ℕ) → Each LineNames (pieces line_feed text) → NamesLeft text junction 0
-all_left text junction named = record { lines_named = named; same_place = refl }
-
 module _ {text : List ℕ} {junction at : ℕ} (left : NamesLeft text junction at) where
   pub line_named : LineNames (line_from text at)
   unfolding Each
@@ -158,7 +157,7 @@ module _ {text : List ℕ} {junction at : ℕ} (left : NamesLeft text junction a
   none_left h = rw (drop_of_length-le text h) at left.same_place
 
   module _ {end : ℕ} (ends : end ≡ at + length (line_from text at)) where
-    pub line_passed : name_start_lem text at junction ≡ Other → NamesLeft text junction (end + 1)
+    pub line_passed : name_start_lem text at junction ≡ None → NamesLeft text junction (end + 1)
     unfolding Each pieces place_among mark_of first_two
     line_passed e =
         let other : names_it junction (line_from text at) ≡ false = start_other text at junction e in
@@ -171,7 +170,7 @@ module _ {text : List ℕ} {junction at : ℕ} (left : NamesLeft text junction a
               record { lines_named = rw none (empty_names, tt); same_place = rw none (rw (last_line text at (rw ends at past.1), other) at left.same_place) })
         ]
 
-    module _ {from : ℕ} (e : name_start_lem text at junction ≡ At from) where
+    module _ {from : ℕ} (e : name_start_lem text at junction ≡ Some from) where
       begins : length (number_field (line_from text at)) + 4 < length (line_from text at)
       begins =
           let line : List ℕ = line_from text at in

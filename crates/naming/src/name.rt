@@ -6,34 +6,27 @@ ghost use Rattle.townfile.specs.Name.{name_of, place_among, name_place_lem};
 ghost use Rattle.fields.specs.Fields.{line_from};
 ghost use Rattle.naming.specs.Code.Naming.{LineNames, name_start_lem};
 
-use fields::field::{Field, line_end, mark_at, read_field};
-use scanning::scan::{Scanned, scan};
+use fields::field::{line_end, mark_at, read_field};
+use scanning::scan::scan;
 use townfile::mark::JUNCTION;
 use townfile::part::Part;
 
 // Where the name begins, if the line names the junction asked for.
-#[derive(Clone, Copy)]
-enum NameStart {
-    At(usize),
-    Other,
-}
-
-fn name_start(text: &[u8], at: usize, junction: u32) -> NameStart
+fn name_start(text: &[u8], at: usize, junction: u32) -> Option<usize>
     requires { LineNames (line_from text.now at) }
     ensures { result ≡ name_start_lem text.now at junction }
 {
     if mark_at(text, at) != JUNCTION {
-        return NameStart::Other;
+        return None;
     }
-    let Field::Number { value, next } = read_field(text, at + 2) else {
-        return NameStart::Other;
-    };
-    if value != junction {
-        return NameStart::Other;
+    let number = read_field(text, at + 2)?;
+    if number.value != junction {
+        return None;
     }
-    NameStart::At(next + 1)
+    Some(number.next + 1)
 }
 
+// The lines are walked by hand: the answer needs their places in the text.
 fn find_name(text: &[u8], junction: u32) -> Part
     requires { Each LineNames (pieces line_feed text.now) }
     ensures { result ≡ place_among junction 0 (pieces line_feed text.now) }
@@ -41,7 +34,7 @@ fn find_name(text: &[u8], junction: u32) -> Part
     let mut at = 0;
     while at < text.len() {
         let end = line_end(text, at);
-        if let NameStart::At(start) = name_start(text, at, junction) {
+        if let Some(start) = name_start(text, at, junction) {
             return Part {
                 start,
                 length: end - start,
@@ -58,11 +51,7 @@ fn find_name(text: &[u8], junction: u32) -> Part
 pub fn name_place(text: &[u8], junction: u32) -> Part
     ensures { result ≡ name_place_lem text.now junction }
 {
-    if let Scanned::Refused {
-        refusal: _,
-        line: _,
-    } = scan(text)
-    {
+    if let Err(_) = scan(text) {
         return Part {
             start: 0,
             length: 0,

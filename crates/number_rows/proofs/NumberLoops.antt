@@ -4,19 +4,19 @@ use Prim.Native.Nat.{ℕ, zero, suc, ◌+◌, ◌-◌, ◌≤◌, ◌<◌}
 use mathlib.Core.Path.{◌≡◌, refl, sym, ap, ◌∙◌}
 use mathlib.Core.Bool.{Bool, true, false, cond, ◌&&◌, and_assoc}
 use mathlib.Core.List.{List, [], ◌∷◌}
+use Rattle.std.specs.Prelude.{Some, None, Result, Err}
 use native.Mathlib.Omega.{arith}
 use lib.Dec.{eqb, eqb-suc-zero}
 use lib.ListN.{length, get_or, take}
 use borrow.Author.Tests.{ne_eqb}
 use Rattle.model.specs.Rules.{every, rise_from, fences_keep_lem, speed_keeps, hold_keeps}
 use Rattle.townfile.specs.Bytes.{pieces, up_to}
-use Rattle.fields.specs.Fields.{line_from, field_at, numbers_from}
-use Rattle.fields.specs.declared.field.Field.TheVariants as field
+use Rattle.fields.specs.Fields.{line_from, field, field_at, numbers_from}
 use Rattle.fields.proofs.FieldsLeft.{field_read, no_bytes}
 use Rattle.number_rows.specs.NumbersRead.{numbers_read, row_keeps}
 use Rattle.number_rows.specs.Code.Fences.{fence_keeps_lem}
-use Rattle.number_rows.specs.declared.numbers.Numbers.{Numbers}
-use Rattle.number_rows.specs.declared.numbers.Numbers.TheVariants.{Malformed}
+use Rattle.refusals.specs.declared.refusal.Refusal.{Refusal}
+use Rattle.refusals.specs.declared.refusal.Refusal.TheVariants.{FieldForm}
 use Rattle.number_rows.proofs.NumbersLeft.{numbers_same, numbers_go_on, numbers_malformed, numbers_not_ended}
 
 -- ---- Any test
@@ -31,7 +31,7 @@ all_left all text at count = record { same = ap (λ some. numbers_read all some 
 -- No number is left: the flag decides.
 last_test : (test : List ℕ → Bool) (text : List ℕ) (i : ℕ) (within : Bool) → within ≡ test [] →
     numbers_read (λ numbers. within) 0 text i ≡ numbers_read test 0 text i
-unfolding numbers_read pieces up_to every
+unfolding numbers_read pieces up_to
 last_test test text i within e = go (eqb (length (line_from text i)) 0) refl
   where
     go : (ended : Bool) → eqb (length (line_from text i)) 0 ≡ ended → numbers_read (λ numbers. within) 0 text i ≡ numbers_read test 0 text i
@@ -56,11 +56,11 @@ module _ {all : List ℕ → Bool} {text : List ℕ} {at count : ℕ} {within : 
     left_is : count - k ≡ suc (count - (k + 1))
     left_is = omega arith
 
-    pub left_malformed : field_at text i ≡ field.Malformed → Malformed ≡ numbers_read all count text at
+    pub left_malformed : field_at text i ≡ None → Err FieldForm ≡ numbers_read all count text at
     left_malformed e = rw left_is (numbers_malformed text i flagged (count - (k + 1)) e) ∙ here.same
 
     pub left_goes_on : {value next : ℕ} {within' : Bool} (keeps : Bool) (left' : List ℕ → Bool) →
-        field_at text i ≡ field.Number value next → within' ≡ (within && keeps) →
+        field_at text i ≡ Some (field value next) → within' ≡ (within && keeps) →
         ((numbers : List ℕ) → left (value ∷ numbers) ≡ (keeps && left' numbers)) → Left all text at count within' left' (k + 1) next
     left_goes_on {value} {next} {within'} keeps left' e flag goes =
         let rest = numbers_from text next in
@@ -75,7 +75,7 @@ module _ {all : List ℕ → Bool} {text : List ℕ} {at count : ℕ} {within : 
         }
 
     -- A number that is tested together with those behind it.
-    pub left_taken : {value next : ℕ} → field_at text i ≡ field.Number value next → Left all text at count within (λ numbers. left (value ∷ numbers)) (k + 1) next
+    pub left_taken : {value next : ℕ} → field_at text i ≡ Some (field value next) → Left all text at count within (λ numbers. left (value ∷ numbers)) (k + 1) next
     left_taken {value} e = left_goes_on true (λ numbers. left (value ∷ numbers)) e (flag_alone within) (λ numbers. refl)
 
   pub left_decides : count ≤ k → {kept : Bool} → kept ≡ (within && left []) → numbers_read (λ numbers. kept) 0 text i ≡ numbers_read all count text at
@@ -108,7 +108,6 @@ no_fence (suc k) before = rw (eqb-suc-zero k)
 -- A speed is tested in front of those behind it and of the hold.
 pub row_next : (count k : ℕ) → k < count → (speed : ℕ) (numbers : List ℕ) →
     row_keeps (count - k) (speed ∷ numbers) ≡ (speed_keeps speed && row_keeps (count - (k + 1)) numbers)
-unfolding every
 row_next count k more speed numbers =
     let next : count - k ≡ suc (count - (k + 1)) = omega arith in
     rw next (and_assoc (speed_keeps speed) (every speed_keeps (take (count - (k + 1)) numbers)) (hold_keeps (get_or numbers (count - (k + 1)) 0)))
@@ -122,19 +121,17 @@ module _ (text : List ℕ) (at : ℕ) where
     abbrev ending : List ℕ → Bool
     ending numbers = within && row_keeps 0 numbers
 
-    abbrev asked : ℕ → Numbers
+    abbrev asked : ℕ → Result ℕ Refusal
     asked holds = numbers_read ending holds text at
 
     pub ends_unheld_law : numbers_read (λ numbers. within) 0 text at ≡ asked 0
-    unfolding every
     ends_unheld_law = left_decides (all_left ending text at 0) (omega arith) (flag_alone within)
 
-    pub no_hold_law : field_at text at ≡ field.Malformed → Malformed ≡ asked 1
+    pub no_hold_law : field_at text at ≡ None → Err FieldForm ≡ asked 1
     no_hold_law e = left_malformed (all_left ending text at 1) (omega arith) e
 
-    pub ends_held : {hold next : ℕ} {kept : Bool} → field_at text at ≡ field.Number hold next → kept ≡ (within && hold_keeps hold) →
+    pub ends_held : {hold next : ℕ} {kept : Bool} → field_at text at ≡ Some (field hold next) → kept ≡ (within && hold_keeps hold) →
         numbers_read (λ numbers. kept) 0 text next ≡ asked 1
-    unfolding every
     ends_held e k = left_decides (left_taken (all_left ending text at 1) (omega arith) e) (omega arith) k
 
 -- Behind all speeds what is left of the row is its end.

@@ -1,32 +1,27 @@
 -- The short reading of speeds. Where a word ends behind the digits that were read, they are the word. So a row whose spaces and line
 -- feed stand behind each of its numbers is one of fields, and at each place what is left of it comes to what the whole comes to.
 use Prim.Native.Nat.{ℕ, suc, ◌+◌, ◌-◌, ◌≤◌, ◌<◌}
-use mathlib.Core.Path.{◌≡◌, refl, subst, ◌∙◌}
+use mathlib.Core.Path.{◌≡◌, refl, ◌∙◌}
 use mathlib.Core.Bool.{true, ◌&&◌}
 use mathlib.Core.List.{List, [], ◌∷◌}
+use Rattle.std.specs.Prelude.{Some}
 use native.Mathlib.Omega.{arith}
 use lib.ListN.{length, get_or}
 use borrow.Author.Tests.{le-leb}
 use Rattle.model.specs.Limits.{max_speed}
 use Rattle.model.specs.Rules.{every}
 use Rattle.model.proofs.Rules.{both_true}
-use Rattle.townfile.specs.Bytes.{space, digit}
+use Rattle.townfile.specs.Bytes.{digit}
 use Rattle.townfile.specs.Numbers.{decimal_from, decimal}
 use Rattle.townfile.specs.Grammar.{Number}
 use Rattle.townfile.proofs.Between.{every_between}
 use Rattle.townfile.proofs.NumberForm.{number_keeps_law}
-use Rattle.fields.specs.Fields.{word_from, field_at}
+use Rattle.fields.specs.Fields.{word_from, field, field_at}
 use Rattle.number_rows.specs.NumbersRead.{numbers_read, row_keeps}
-use Rattle.number_rows.specs.Code.ShortSpeeds.{ReadTo, SpeedWord, ShortWord, ShortField, ShortRow}
-use Rattle.fields.specs.declared.field.Field.TheVariants as field
-use Rattle.number_rows.specs.declared.speeds.ShortRead.{ShortRead}
-use Rattle.number_rows.specs.declared.speeds.ShortRead.TheVariants.{To, Unsure}
+use Rattle.number_rows.specs.Code.ShortSpeeds.{SpeedWord, ShortWord, ShortField, ShortRow}
 use Rattle.fields.proofs.LineFrom.{space_ends, gap_begins}
 use Rattle.fields.proofs.Digits.{digit_is, digit_bounds, digit_word}
 use Rattle.number_rows.proofs.NumberLoops.{Left, left_goes_on, row_next}
-
-pub reached_at : (holds : ℕ → Type 0) {read : ShortRead} {end : ℕ} → read ≡ To end → ReadTo holds read → holds end
-reached_at holds e h = subst (ReadTo holds) e h
 
 -- ---- A word of few digits
 
@@ -64,7 +59,7 @@ module _ (text : List ℕ) (first : ℕ) where
 
   -- The only digit may be 0.
   pub one_digit_read : first < length text → digit byte₁ ≡ true → ShortWord text first (first + 1)
-  unfolding every decimal_from
+  unfolding decimal_from
   one_digit_read inside d₁ =
       let bounds = digit_bounds byte₁ d₁ in
       let word : (e : word_from text (first + 1) ≡ []) → word_from text first ≡ byte₁ ∷ [] = λ e. digit_before text first (first + 1) refl inside d₁ e in
@@ -81,7 +76,7 @@ module _ (text : List ℕ) (first : ℕ) where
     two_before e = digit_before text first (first + 1) refl (omega arith) d₁ (digit_before text (first + 1) (first + 2) (omega arith) (omega arith) d₂ e)
 
     pub two_digits_read : ShortWord text first (first + 2)
-    unfolding every decimal_from
+    unfolding decimal_from
     two_digits_read =
         let bounds = digit_bounds byte₂ d₂ in
         let digits : every digit (byte₁ ∷ byte₂ ∷ []) ≡ true = both_true d₁ (both_true d₂ refl) in
@@ -92,7 +87,6 @@ module _ (text : List ℕ) (first : ℕ) where
 
     module _ (d₃ : digit byte₃ ≡ true) where
       pub three_are_digits : every digit (byte₁ ∷ byte₂ ∷ byte₃ ∷ []) ≡ true
-      unfolding every
       three_are_digits = both_true d₁ (both_true d₂ (both_true d₃ refl))
 
       three_before : word_from text (first + 3) ≡ [] → word_from text first ≡ byte₁ ∷ byte₂ ∷ byte₃ ∷ []
@@ -107,13 +101,8 @@ module _ (text : List ℕ) (first : ℕ) where
 
 -- ---- A field
 
-pub behind_gap : (text : List ℕ) (at : ℕ) → get_or text at 0 ≡ space →
-    (read : ShortRead) → ReadTo (ShortWord text (at + 1)) read → ReadTo (ShortField text at) read
-behind_gap text at gap (To end) digits = record { gap = gap; digits = digits }
-behind_gap text at gap Unsure none = none
-
 field_is : (text : List ℕ) (at end : ℕ) → at < length text → ShortField text at end → word_from text end ≡ [] →
-    field_at text at ≡ field.Number (decimal (word_from text (at + 1))) end
+    field_at text at ≡ Some (field (decimal (word_from text (at + 1))) end)
 unfolding field_at
 field_is text at end inside read e =
     let word = read.digits.word e in

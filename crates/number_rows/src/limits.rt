@@ -1,15 +1,8 @@
 // Tests of limits. They are free of branches, since a line is read on after a number outside its limits.
-ghost use Rattle.std.specs.Prelude.{◌≡◌, ◌&&◌};
+ghost use Rattle.std.specs.Prelude.{◌≡◌};
 ghost use Rattle.number_rows.specs.Code.Fences.{fence_keeps_lem};
 
 use model::tick::Tick;
-
-// Both hold. As a function it keeps tests and flags free of branches.
-pub fn both(a: bool, b: bool) -> bool
-    ensures { result ≡ (a && b) }
-{
-    a && b
-}
 
 // The first fence is 0; any other is above the one before it and below the day.
 pub(crate) fn fence_keeps(k: u32, before: u32, fence: u32) -> bool
@@ -18,5 +11,5 @@ pub(crate) fn fence_keeps(k: u32, before: u32, fence: u32) -> bool
     if k == 0 {
         return fence == 0;
     }
-    both(before < fence, fence < Tick::DAY)
+    (before < fence) & (fence < Tick::DAY)
 }

@@ -1,7 +1,7 @@
 -- Rows that stand for a list of closures give the list's answer. Either they are its records, or both are too many: then each is refused alike, by
 -- the network's own rules or by 36, whatever the records are.
 use Prim.Native.Nat.{ℕ, ◌<◌}
-use mathlib.Core.Path.{◌≡◌, refl, ap, ◌∙◌}
+use mathlib.Core.Path.{◌≡◌, refl, ap}
 use mathlib.Core.Bool.{Bool, true, false, cond}
 use mathlib.Core.List.{List, [], ◌∷◌, ◌++◌}
 use native.Mathlib.Omega.{arith}
@@ -60,16 +60,12 @@ module _ (N : Network) (asker : ℕ) where
 
 -- ---- The operations
 
--- What holds for the rows holds for each list that could have been read, for which they stand, if it is the same for all lists that are too long.
+-- What holds for the rows holds for the list for which they stand, if it is the same for all lists that are too long.
 pub answer_alike : {A : Type 0} {answer : List Closure → A} →
     ((some others : List Closure) → max_closures < length some → max_closures < length others → answer some ≡ answer others) →
-    {Read : List Closure → Type 0} {rows : List (List ℕ)} → ((xs : List Closure) → Read xs → StandFor xs rows) → {a : A} → a ≡ answer (closures_of rows) →
-    (xs : List Closure) → Read xs → a ≡ answer xs
-answer_alike {answer = answer} too_long {rows = rows} stand is xs read = is ∙ go (stand xs read)
-  where
-    go : {ys : List Closure} → StandFor ys rows → answer (closures_of rows) ≡ answer ys
-    go (all same) = ap answer same
-    go {ys} (too_many many many-rows) = too_long (closures_of rows) ys (omega (arith, many-rows, length-map rows closure_of)) many
+    {xs : List Closure} {rows : List (List ℕ)} → StandFor xs rows → answer (closures_of rows) ≡ answer xs
+answer_alike {answer = answer} too_long (all same) = ap answer same
+answer_alike too_long {xs} {rows} (too_many many many-rows) = too_long (closures_of rows) xs (omega (arith, many-rows, length-map rows closure_of)) many
 
 -- An operation that writes ends in its answer and two things more.
 pub record SameTooLong {A B C : Type 0} (answer : List Closure → A) (first : List Closure → B) (second : List Closure → C) : Type 0 where
@@ -77,17 +73,10 @@ pub record SameTooLong {A B C : Type 0} (answer : List Closure → A) (first : L
       (answer some ≡ answer others) × ((first some ≡ first others) × (second some ≡ second others))
 
 pub alike : {A B C : Type 0} {answer : List Closure → A} {first : List Closure → B} {second : List Closure → C} → SameTooLong answer first second →
-    {Read : List Closure → Type 0} {rows : List (List ℕ)} → ((xs : List Closure) → Read xs → StandFor xs rows) → {a : A} {b : B} {c : C} →
-    (a ≡ answer (closures_of rows)) × ((b ≡ first (closures_of rows)) × (c ≡ second (closures_of rows))) →
-    ((xs : List Closure) → Read xs → a ≡ answer xs) × (((xs : List Closure) → Read xs → b ≡ first xs) × ((xs : List Closure) → Read xs → c ≡ second xs))
-alike too_long stand (a-is, (b-is, c-is)) =
-    let same = too_long.same in (
-      answer_alike (λ some others many more. (same some others many more).0) stand a-is,
-      (
-        answer_alike (λ some others many more. (same some others many more).1.0) stand b-is,
-        answer_alike (λ some others many more. (same some others many more).1.1) stand c-is,
-      ),
-    )
+    {xs : List Closure} {rows : List (List ℕ)} → StandFor xs rows →
+    (answer (closures_of rows) ≡ answer xs) × ((first (closures_of rows) ≡ first xs) × (second (closures_of rows) ≡ second xs))
+alike {answer = answer} {first = first} {second = second} too_long (all same) = (ap answer same, (ap first same, ap second same))
+alike too_long {xs} {rows} (too_many many many-rows) = too_long.same (closures_of rows) xs (omega (arith, many-rows, length-map rows closure_of)) many
 
 module _ (N : Network) (asker source departure : ℕ) (labels predecessors : List ℕ) where
   labels_overlong : (closures : List Closure) → max_closures < length closures → labels_answer (closed_by N closures) asker source departure labels predecessors ≡ refused (number N)

@@ -5,7 +5,7 @@ use mathlib.Core.Path.{◌≡◌, refl, sym, ap, ◌∙◌}
 use mathlib.Core.Bool.{Bool, true, false, not, ◌&&◌, true≢false, and-eq-true_iff}
 use mathlib.Core.List.{List}
 use mathlib.Core.Logic.{◌↔◌, ◌⊎◌, inl, inr, ⊎_elim, by_cases}
-use mathlib.Core.Option.{Option, none, some}
+use Rattle.std.specs.Prelude.{Option, None, Some}
 use native.Mathlib.Decide.{ℕ_discrete}
 use native.Mathlib.Omega.{arith}
 use lib.Dec.{eqb}
@@ -39,13 +39,13 @@ module _ {N : Network} {labels intervals' : List ℕ} (p : TimedLabels N labels 
     where
       go : (arrived : Option (ℕ × ℕ)) → OnArc N labels a arrived →
           ((not (eqb (tick_of arrived) never) && eqb (tick_of arrived) (get_or labels head 0)) ≡ true) ↔ Attains (net_of N) labels head a
-      go (some (tick, interval)) (arrives is by in_interval) = (
+      go (Some (tick, interval)) (arrives is by in_interval) = (
         λ test.
             let same = eqb-true tick (get_or labels head 0) ((and-eq-true_iff (not (eqb tick never)) (eqb tick (get_or labels head 0))).0 test).1 in
             record { is_arc = is_arc; into = refl; arrives = sym is ∙ same ∙ head_label p is_arc; reached = omega (arith, head_label p is_arc, by) },
         λ at. rw (eq-eqb tick (get_or labels head 0) (is ∙ at.arrives ∙ sym (head_label p is_arc)), ne_eqb tick never (λ e. omega arith)),
       )
-      go none on = (
+      go None on = (
         λ test. absurd (true≢false (sym test)),
         λ at. absurd (⊎_elim (λ late. omega (arith, at.arrives)) (λ none-driven. omega (arith, at.arrives, at.reached)) (none_arrived p is_arc on)),
       )
@@ -99,16 +99,16 @@ module _ {N : Network} {labels intervals' arrivals heads : List ℕ} (p : TimedL
   entry : get_or predecessors (get_or N.heads k 0) no_arc ≡ get_or predecessors (get_or N.heads k 0) 0
   entry = get_or-inside predecessors (get_or N.heads k 0) no_arc 0 (omega (arith, so_far.long, p.accepted.head_below k is_arc))
 
-  pub next_taken : get_or predecessors (get_or heads k 0) 0 ≡ no_arc → test heads ≡ true → LowestAttaining (net_of N) labels (k + 1) (set predecessors (get_or heads k 0) k)
+  next_taken : get_or predecessors (get_or heads k 0) 0 ≡ no_arc → test heads ≡ true → LowestAttaining (net_of N) labels (k + 1) (set predecessors (get_or heads k 0) k)
   next_taken missing attained =
       rw (← is)
       (takes_head k so_far (omega (arith, p.accepted.arcs_fit, is_arc)) (p.accepted.head_below k is_arc) (entry ∙ (rw (← is) at missing))
       ((attains_up_to_date p is_arc (up-to-date k inside)).0 (rw (← is) at attained)))
 
-  pub next_missed : test heads ≡ false → LowestAttaining (net_of N) labels (k + 1) predecessors
+  next_missed : test heads ≡ false → LowestAttaining (net_of N) labels (k + 1) predecessors
   next_missed fails = stays_all k so_far (λ at _. true≢false (sym ((attains_up_to_date p is_arc (up-to-date k inside)).1 at) ∙ (rw (← is) at fails)))
 
-  pub next_has : (get_or predecessors (get_or heads k 0) 0 ≡ no_arc → ⊥) → LowestAttaining (net_of N) labels (k + 1) predecessors
+  next_has : (get_or predecessors (get_or heads k 0) 0 ≡ no_arc → ⊥) → LowestAttaining (net_of N) labels (k + 1) predecessors
   next_has has = stays_all k so_far (λ _ missing. (rw (← is) at has) (sym entry ∙ missing))
 
 -- ---- One arc
@@ -125,14 +125,6 @@ pub record Goes (labels arrivals heads predecessors : List ℕ) (k : ℕ) (after
   pub taken : has_none labels arrivals heads predecessors k → attaining labels arrivals heads predecessors k ≡ true → after ≡ set predecessors (get_or heads k 0) k
   pub missed : has_none labels arrivals heads predecessors k → attaining labels arrivals heads predecessors k ≡ false → after ≡ predecessors
   pub has : (has_none labels arrivals heads predecessors k → ⊥) → after ≡ predecessors
-
-pub goes_long : {labels arrivals heads predecessors : List ℕ} {k : ℕ} {after : List ℕ} → Goes labels arrivals heads predecessors k after → length after ≡ length predecessors
-goes_long {labels} {arrivals} {heads} {predecessors} {k} {after} g =
-    by_cases (ℕ_discrete (get_or predecessors (get_or heads k 0) 0) no_arc) (λ missing. go (attaining labels arrivals heads predecessors k) refl missing) (λ present. ap length (g.has present))
-  where
-    go : (b : Bool) → attaining labels arrivals heads predecessors k ≡ b → has_none labels arrivals heads predecessors k → length after ≡ length predecessors
-    go true e missing = ap length (g.taken missing e) ∙ length-set predecessors (get_or heads k 0) k
-    go false e missing = ap length (g.missed missing e)
 
 module _ {N : Network} {labels intervals' arrivals heads : List ℕ} (p : TimedLabels N labels intervals') (is : N.heads ≡ heads) (up-to-date : AllUpToDate N labels arrivals (length heads))
     (k : ℕ) (inside : k < length heads) {predecessors : List ℕ} (so_far : LowestAttaining (net_of N) labels k predecessors) where

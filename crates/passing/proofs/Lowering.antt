@@ -4,7 +4,7 @@ use mathlib.Core.Path.{◌≡◌, refl, sym, ap, ◌∙◌}
 use mathlib.Core.Bool.{Bool, true, false}
 use mathlib.Core.List.{List}
 use mathlib.Core.Logic.{◌⊎◌, inl, inr, ⊎_elim, by_cases}
-use mathlib.Core.Option.{none, some}
+use Rattle.std.specs.Prelude.{None, Some}
 use native.Mathlib.Decide.{ℕ_discrete}
 use native.Mathlib.Nat.{min-eq_left, min-eq_right}
 use native.Mathlib.Omega.{arith}
@@ -29,28 +29,28 @@ module _ {N : Network} {labels intervals' : List ℕ} (p : TimedLabels N labels 
 
   -- ---- What driving the arc tells
 
-  pub in_plan : {tick interval : ℕ} → OnArc N labels a (some (tick, interval)) → interval < 96
+  pub in_plan : {tick interval : ℕ} → OnArc N labels a (Some (tick, interval)) → interval < 96
   unfolding interval_of_lem
   in_plan {tick} (arrives is by in_interval) =
       omega (arith, in_interval, passed_at_most N.fences (time_of_day_lem tick), (placed p is_arc).has_arc.few_intervals)
 
-  pub none_arrived : OnArc N labels a none → (get_or labels head never < offered N labels a) ⊎ (offered N labels a ≡ never)
+  pub none_arrived : OnArc N labels a None → (get_or labels head never < offered N labels a) ⊎ (offered N labels a ≡ never)
   none_arrived (too_late late) = inl late
   none_arrived (not_driven none-driven) = inr none-driven
 
-  pub arrival_is : {tick interval : ℕ} → OnArc N labels a (some (tick, interval)) → tick ≡ offered N labels a
+  pub arrival_is : {tick interval : ℕ} → OnArc N labels a (Some (tick, interval)) → tick ≡ offered N labels a
   arrival_is (arrives is by in_interval) = is
 
   -- No arrival is earlier than the head's label.
-  pub no_sooner : {tick interval : ℕ} → OnArc N labels a (some (tick, interval)) → get_or labels head 0 ≤ tick → get_or labels head never ≤ offered N labels a
+  pub no_sooner : {tick interval : ℕ} → OnArc N labels a (Some (tick, interval)) → get_or labels head 0 ≤ tick → get_or labels head never ≤ offered N labels a
   no_sooner (arrives is by in_interval) no_lower = omega (arith, head_label p is_arc, is)
 
-  pub none_sooner : OnArc N labels a none → get_or labels head never ≤ offered N labels a
+  pub none_sooner : OnArc N labels a None → get_or labels head never ≤ offered N labels a
   none_sooner on = ⊎_elim (λ late. omega arith) (λ none-driven. omega (arith, at_most_never p is_arc head)) (none_arrived on)
 
   -- ---- What the arc leaves
 
-  pub lowers : {tick interval : ℕ} → OnArc N labels a (some (tick, interval)) → tick < get_or labels head 0 →
+  pub lowers : {tick interval : ℕ} → OnArc N labels a (Some (tick, interval)) → tick < get_or labels head 0 →
       LabelsBecome N labels (offer (net_of N) labels a labels) (set labels head tick) (set intervals' head interval) true
   unfolding offer
   lowers {tick} {interval} (arrives is by in_interval) sooner =

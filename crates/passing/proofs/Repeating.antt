@@ -2,7 +2,7 @@
 -- first, and leaves the labels.
 use Prim.Native.Nat.{ℕ, suc, ◌+◌, ◌-◌, ◌≤◌, ◌<◌}
 use mathlib.Core.Path.{◌≡◌, refl, sym, ap, ◌∙◌}
-use mathlib.Core.Bool.{Bool, true, false}
+use mathlib.Core.Bool.{true, false}
 use mathlib.Core.List.{List}
 use mathlib.Core.Logic.{inl, inr, ⊎_elim, by_cases}
 use native.Mathlib.Decide.{ℕ_discrete, dec_lt}
@@ -62,15 +62,14 @@ module _ {N : Network} {source departure : ℕ} (q : Taken N source departure) w
           let one_more : suc (number - 1) ≡ number = omega (arith, r.from_1) in
           is ∙ ap (pass (net_of N)) r.labels_are ∙ ap (after_passes (net_of N) source departure) one_more
 
-      pub goes_on : {intervals' : List ℕ} {changed : Bool} → LabelsBecome N labels (pass (net_of N) labels) labels' intervals' changed → changed ≡ true →
-          Repeating N source departure (number + 1) labels' intervals'
-      goes_on made is_true =
+      pub goes_on : {intervals' : List ℕ} → LabelsBecome N labels (pass (net_of N) labels) labels' intervals' true → Repeating N source departure (number + 1) labels' intervals'
+      goes_on made =
           let next : number + 1 - 1 ≡ number = omega arith in
           record {
             from_1 = omega arith;
             labels_are = rw next (pass_made made.labels_are);
             earlier_change = λ m from before unchanged.
-                by_cases (ℕ_discrete m number) (λ e. differs (rw is_true at made.tells) (rw e at unchanged)) (λ other. r.earlier_change m from (omega arith) unchanged);
+                by_cases (ℕ_discrete m number) (λ e. differs made.tells (rw e at unchanged)) (λ other. r.earlier_change m from (omega arith) unchanged);
             timed = made.timed;
           }
         where
@@ -79,9 +78,9 @@ module _ {N : Network} {source departure : ℕ} (q : Taken N source departure) w
               let stays : labels' ≡ labels = made.labels_are ∙ ap (pass (net_of N)) r.labels_are ∙ unchanged ∙ sym r.labels_are in
               omega (arith, ap (λ table. get_or table j never) stays)
 
-      pub ends : {intervals' : List ℕ} {changed : Bool} → LabelsBecome N labels (pass (net_of N) labels) labels' intervals' changed → changed ≡ false →
+      pub ends : {intervals' : List ℕ} → LabelsBecome N labels (pass (net_of N) labels) labels' intervals' false →
           (number ≡ passes_of (net_of N) source departure) × (labels' ≡ labels_of (net_of N) source departure)
-      ends made is_false =
+      ends made =
           let number_is : number ≡ passes_of (net_of N) source departure = (first_unchanged_law q number).1 first in (
             number_is,
             pass_made made.labels_are ∙ ap (after_passes (net_of N) source departure) number_is
@@ -92,4 +91,4 @@ module _ {N : Network} {source departure : ℕ} (q : Taken N source departure) w
           unchanged (same is) = rw (← r.labels_are) (sym made.labels_are ∙ is)
 
           first : IsFirstUnchanged (net_of N) source departure number
-          first = record { from_1 = r.from_1; unchanged = unchanged (rw is_false at made.tells); earlier_change = r.earlier_change }
+          first = record { from_1 = r.from_1; unchanged = unchanged made.tells; earlier_change = r.earlier_change }

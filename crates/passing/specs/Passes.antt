@@ -5,15 +5,7 @@ use Rattle.std.specs.Prelude.{ℕ, ◌≤◌, ◌≡◌, List, ◌↔◌}
 use Rattle.model.specs.Network.{Network, network_for, net_of}
 use Rattle.model.specs.Passes.{after_passes, passes_of, IsFirstUnchanged}
 use Rattle.model.specs.Rules.{Outcome, refused, replied, replying}
-use Rattle.refusals.specs.Refusals.{number_of}
 use Rattle.labelling.specs.Labels.{labels_answer, labels_after}
-use Rattle.passing.specs.declared.passes.Passed.{Passed}
-use Rattle.passing.specs.declared.passes.Passed.TheVariants.{Passes, Refused}
-
--- The answer's number.
-abbrev pub outcome_of : Passed → Outcome ℕ
-outcome_of (Passes number) = replied number
-outcome_of (Refused refusal) = refused (number_of refusal)
 
 -- Labels' own answer, with the number of passes on the network as the asker finds it.
 abbrev pub passes_answer : Network → ℕ → ℕ → ℕ → List ℕ → List ℕ → Outcome ℕ

@@ -6,3 +6,4 @@ mod arc;
 mod pass;
 pub mod passes;
 mod predecessor;
+mod tables;

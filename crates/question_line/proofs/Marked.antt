@@ -13,9 +13,10 @@ use Rattle.model.proofs.Tests.{eqb_cases}
 use Rattle.townfile.specs.Bytes.{line_feed, up_to}
 use Rattle.townfile.specs.Lines.{first_two}
 use Rattle.fields.specs.Fields.{line_from, numbers_from}
-use Rattle.question_line.specs.Line.{first_line, behind_mark, has_mark, of_form, asked_by, numbers_after}
+use Rattle.question_line.specs.Line.{asked, first_line, behind_mark, has_mark, of_form, asked_by, numbers_after}
 use Rattle.question_line.specs.Code.Counting.{only_numbers, counted_from}
-use Rattle.question_line.specs.declared.line.Asked.TheVariants.{Numbers, Malformed}
+use Rattle.question_line.specs.declared.line.Asked.{Asked}
+use Rattle.std.specs.Prelude.{Some, None}
 use Rattle.question_line.proofs.Counting.{and-true}
 
 pub record TwoBytes (text : List ℕ) : Type 0 where
@@ -70,7 +71,7 @@ module _ (mark : ℕ) (text : List ℕ) where
   other_mark e = not_marked (rw (ne_eqb (first_two (first_line text)) mark e) (and-false (not (eqb mark 0))))
 
   -- Another form is refused, and changes nothing.
-  pub refused : of_form mark text ≡ false → (table : List ℕ) → (Malformed ≡ asked_by mark text) × (table ≡ numbers_after mark text table)
+  pub refused : of_form mark text ≡ false → (table : List ℕ) → (None ≡ asked_by mark text) × (table ≡ numbers_after mark text table)
   unfolding asked_by numbers_after
   refused e table = (rw e, rw e)
 
@@ -92,23 +93,23 @@ module _ (mark : ℕ) (text : List ℕ) where
         rw (form_is, all, behind_is text line_has, line_is_longer text line_has)
 
     -- What the count tells of the form.
-    pub counted_only : {count next : ℕ} → counted_from 0 text 2 ≡ Numbers count next → (of_form mark text ≡ true) × (only_numbers text 2 ≡ true)
+    pub counted_only : {line : Asked} → counted_from 0 text 2 ≡ Some line → (of_form mark text ≡ true) × (only_numbers text 2 ≡ true)
     unfolding counted_from
-    counted_only {count} {next} e = go (ltb (2 + length (line_from text 2)) (length text)) (only_numbers text 2) form_is e
+    counted_only {line} e = go (ltb (2 + length (line_from text 2)) (length text)) (only_numbers text 2) form_is e
       where
         go : (ended only : Bool) → of_form mark text ≡ (ended && only) →
-            cond (ended && only) (Numbers (0 + length (numbers_from text 2)) (2 + length (line_from text 2) + 1)) Malformed ≡ Numbers count next →
+            cond (ended && only) (Some (asked (0 + length (numbers_from text 2)) (2 + length (line_from text 2) + 1))) None ≡ Some line →
             (of_form mark text ≡ true) × (only ≡ true)
         go true true form e = (form, refl)
         go true false form e = absurd (let z : ◌≡◌ {A = ℕ} 0 1 = cc in omega arith)
         go false only form e = absurd (let z : ◌≡◌ {A = ℕ} 0 1 = cc in omega arith)
 
-    pub not_counted : counted_from 0 text 2 ≡ Malformed → of_form mark text ≡ false
+    pub not_counted : counted_from 0 text 2 ≡ None → of_form mark text ≡ false
     unfolding counted_from
     not_counted e = go (ltb (2 + length (line_from text 2)) (length text) && only_numbers text 2) form_is e
       where
         go : (form : Bool) → of_form mark text ≡ form →
-            cond form (Numbers (0 + length (numbers_from text 2)) (2 + length (line_from text 2) + 1)) Malformed ≡ Malformed → of_form mark text ≡ false
+            cond form (Some (asked (0 + length (numbers_from text 2)) (2 + length (line_from text 2) + 1))) None ≡ None → of_form mark text ≡ false
         go true form e = absurd (let z : ◌≡◌ {A = ℕ} 0 1 = cc in omega arith)
         go false form e = form
 

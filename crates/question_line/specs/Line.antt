@@ -1,12 +1,11 @@
 -- A line that asks: a mark, then numbers "in file form, LF at the end". How many numbers it should have is the program's to say.
-use Rattle.std.specs.Prelude.{ℕ, ◌+◌, ◌*◌, ◌≤◌, ◌≡◌, Bool, true, cond, not, ◌&&◌, List, ◌∷◌, ◌++◌, map, ◌↔◌, ltb, eqb, length, take, drop}
+use Rattle.std.specs.Prelude.{ℕ, Option, Some, None, ◌+◌, ◌*◌, ◌≤◌, ◌≡◌, Bool, true, cond, not, ◌&&◌, List, ◌∷◌, ◌++◌, map, ◌↔◌, ltb, eqb, length, take, drop}
 use Rattle.model.specs.Rules.{every, written}
 use Rattle.townfile.specs.Bytes.{line_feed, space, up_to, pieces}
 use Rattle.townfile.specs.Numbers.{decimal, number_keeps}
 use Rattle.townfile.specs.Lines.{first_two}
 use Rattle.townfile.specs.Grammar.{Bytes, Fields}
 use Rattle.question_line.specs.declared.line.Asked.{Asked}
-use Rattle.question_line.specs.declared.line.Asked.TheVariants.{Numbers, Malformed}
 
 abbrev pub first_line : List ℕ → List ℕ
 first_line text = up_to line_feed text
@@ -38,9 +37,12 @@ rest_start text = length (first_line text) + 1
 abbrev pub rest_of : List ℕ → List ℕ
 rest_of text = drop (rest_start text) text
 
+abbrev pub asked : ℕ → ℕ → Asked
+asked count next = record { count = count; next = next }
+
 -- How many numbers a line of the form has, and where it ends.
-unfoldable pub asked_by : ℕ → List ℕ → Asked
-asked_by mark text = cond (of_form mark text) (Numbers (length (numbers_in text)) (rest_start text)) Malformed
+unfoldable pub asked_by : ℕ → List ℕ → Option Asked
+asked_by mark text = cond (of_form mark text) (Some (asked (length (numbers_in text)) (rest_start text))) None
 
 -- The table then starts with as many of the numbers as it has room for, and is unchanged after them.
 unfoldable pub numbers_after : ℕ → List ℕ → List ℕ → List ℕ

@@ -4,6 +4,7 @@ use mathlib.Core.Path.{◌≡◌, refl, sym, ap, ◌∙◌}
 use mathlib.Core.Bool.{Bool, true, false, cond, not, ◌&&◌}
 use mathlib.Core.Logic.{inl, inr}
 use mathlib.Core.List.{List, []}
+use Rattle.std.specs.Prelude.{Option, Some, None, Ok, Err}
 use native.Mathlib.Omega.{arith}
 use lib.Dec.{leb, eqb}
 use lib.ListN.{length, get_or, drop, drop_of_length-le}
@@ -14,26 +15,24 @@ use Rattle.townfile.specs.Numbers.{decimal, number_keeps}
 use Rattle.townfile.specs.Lines.{mark_tn, mark_fn, mark_jn, mark_ar, mark_cm, mark_of, mark_alone, numbers_of, numbers_keep, number_field, name_field, name_keeps, begins_held, arc_fields}
 use Rattle.townfile.specs.Lines.{form_keeps, values_keep, town_keeps_lem, junction_keeps_lem, arc_keeps_lem, after_town_lem, after_fences_lem, after_junction, after_arc_lem, line_read}
 use Rattle.townfile.specs.declared.progress.Progress.{Progress}
-use Rattle.fields.specs.Fields.{line_from, word_from, field_at, fields_from, numbers_from}
-use Rattle.reading.specs.LineSteps.{Step, step, step_of_line}
+use Rattle.fields.specs.Fields.{line_from, word_from, field, field_at, fields_from, numbers_from}
+use Rattle.reading.specs.LineSteps.{step, step_of_line}
 use Rattle.number_rows.specs.NumbersRead.{numbers_read}
 use Rattle.reading.specs.Code.Kinds.{of_numbers_lem, in_turn_only, with_name, with_junction, of_comment, town_step, fences_step, junction_step, arc_step, comment_step}
 use Rattle.fields.specs.Fields.{name_at}
 use Rattle.fields.specs.declared.field.Field.{Field}
-use Rattle.fields.specs.declared.field.Field.TheVariants as field
-use Rattle.number_rows.specs.declared.numbers.Numbers.TheVariants.{Within, Outside, Malformed}
-use Rattle.fields.specs.declared.field.Rest.TheVariants.{Good}
-use Rattle.fields.specs.declared.field.Rest.TheVariants as rest
+use Rattle.refusals.specs.declared.refusal.Refusal.TheVariants.{FieldForm, FieldValue}
+use Rattle.reading.specs.declared.line.LineRead.{LineRead}
 use Rattle.fields.proofs.BehindMark.{BehindMark}
 use Rattle.fields.proofs.LineFrom.{line_later}
 use Rattle.fields.proofs.FieldsLeft.{FieldRead, field_read, field_not_read, gap_line, no_word, word_gone, word_behind, end_behind}
 
 -- The rules from 24 on, one after the other.
-abbrev asked : Bool → Bool → Bool → Step → Outcome Step
+abbrev asked : Bool → Bool → Bool → LineRead → Outcome LineRead
 asked turn form values reply = cond (not turn) (refused 24) (cond (not form) (refused 25) (cond (not values) (refused 26) (replied reply)))
 
 numbers_asked : (turn a b c values : Bool) (p : Progress) (end : ℕ) →
-    in_turn_only turn (of_numbers_lem (cond (a && b && c) (cond values (Within end) Outside) Malformed) p) ≡ asked turn (a && (b && c)) values (step p end)
+    in_turn_only turn (of_numbers_lem (cond (a && b && c) (cond values (Ok end) (Err FieldValue)) (Err FieldForm)) p) ≡ asked turn (a && (b && c)) values (step p end)
 numbers_asked false a b c values p end = refl
 numbers_asked true false b c values p end = refl
 numbers_asked true true false c values p end = refl
@@ -42,17 +41,17 @@ numbers_asked true true true true false p end = refl
 numbers_asked true true true true true p end = refl
 
 comment_asked : (p : Progress) (alone all : Bool) (end : ℕ) →
-    cond alone (of_comment p (cond all (Good end) rest.Malformed)) (refused 25) ≡ cond (not (alone && all)) (refused 25) (replied (step p end))
+    cond alone (of_comment p (cond all (Some end) None)) (refused 25) ≡ cond (not (alone && all)) (refused 25) (replied (step p end))
 comment_asked p false all end = refl
 comment_asked p true false end = refl
 comment_asked p true true end = refl
 
 name_asked : (p : Progress) (junction : ℕ) (kept : Bool) (end : ℕ) →
-    with_name p junction (cond kept (Good end) rest.Malformed) ≡ asked true kept (junction_keeps_lem p junction) (step (after_junction p junction) end)
+    with_name p junction (cond kept (Some end) None) ≡ asked true kept (junction_keeps_lem p junction) (step (after_junction p junction) end)
 name_asked p junction false end = refl
 name_asked p junction true end = go (junction_keeps_lem p junction)
   where
-    reply : Step
+    reply : LineRead
     reply = step (after_junction p junction) end
 
     go : (keeps : Bool) → cond keeps (replied reply) (refused 26) ≡ cond (not keeps) (refused 26) (replied reply)
@@ -72,7 +71,7 @@ module _ (p : Progress) (text : List ℕ) (at : ℕ) (behind : BehindMark text a
   abbrev number : ℕ
   number = decimal (number_field whole)
 
-  abbrev added : Step
+  abbrev added : LineRead
   added = step (after_junction p number) (at + length whole)
 
   -- The number's bytes stand behind the space.
@@ -106,7 +105,7 @@ module _ (p : Progress) (text : List ℕ) (at : ℕ) (behind : BehindMark text a
         drop_of_length-le whole past
 
     -- With that number, what a name and an end of the line come to.
-    abbrev with_name_law : Bool → ℕ → Outcome Step
+    abbrev with_name_law : Bool → ℕ → Outcome LineRead
     with_name_law kept end = asked true kept (junction_keeps_lem p junction) (step (after_junction p junction) end)
 
     named : with_name p junction (name_at text next) ≡ with_name_law (name_keeps (name_field whole)) (at + length whole)
@@ -123,11 +122,11 @@ module _ (p : Progress) (text : List ℕ) (at : ℕ) (behind : BehindMark text a
           | inr space ↦ absurd (let z : ◌≡◌ {A = ℕ} 0 1 = cc in omega arith)
         ]
 
-    read_asked : with_junction p text (field.Number junction next) ≡ asked true form (junction_keeps_lem p number) added
+    read_asked : with_junction p text (Some (field junction next)) ≡ asked true form (junction_keeps_lem p number) added
     read_asked = rw (alone, number_keeps_law, value_is) named
 
   -- No number behind a space: the line is not of the form.
-  not_of_form : field_at text (at + 2) ≡ field.Malformed → form ≡ false
+  not_of_form : field_at text (at + 2) ≡ None → form ≡ false
   unfolding number_keeps up_to
   not_of_form e = go (mark_alone whole) refl
     where
@@ -142,9 +141,9 @@ module _ (p : Progress) (text : List ℕ) (at : ℕ) (behind : BehindMark text a
   junction_asked false = refl
   junction_asked true = go (field_at text (at + 2)) refl
     where
-      go : (f : Field) → field_at text (at + 2) ≡ f → with_junction p text f ≡ asked true form (junction_keeps_lem p number) added
-      go (field.Number junction next) e = read_asked (field_read text (at + 2) e)
-      go field.Malformed e = rw (not_of_form e)
+      go : (f : Option Field) → field_at text (at + 2) ≡ f → with_junction p text f ≡ asked true form (junction_keeps_lem p number) added
+      go (Some number) e = read_asked (field_read text (at + 2) e)
+      go None e = rw (not_of_form e)
 
 -- ---- Any line
 

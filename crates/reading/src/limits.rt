@@ -4,36 +4,30 @@ ghost use Rattle.townfile.specs.Lines.{town_keeps_lem, junction_keeps_lem};
 ghost use Rattle.reading.specs.Code.Kinds.{arc_fits_lem};
 
 use model::limit::{MAX_ARCS, MAX_INTERVALS, MAX_JUNCTIONS, MAX_LENGTH};
-use number_rows::limits::both;
 use townfile::progress::Progress;
 
 pub(crate) fn town_keeps(junctions: u32, intervals: u32) -> bool
     ensures { result ≡ town_keeps_lem (junctions ∷ intervals ∷ []) }
 {
-    both(
-        both(
-            both(0 < junctions, junctions <= MAX_JUNCTIONS as u32),
-            0 < intervals,
-        ),
-        intervals <= MAX_INTERVALS as u32,
-    )
+    (0 < junctions)
+        & (junctions <= MAX_JUNCTIONS as u32)
+        & (0 < intervals)
+        & (intervals <= MAX_INTERVALS as u32)
 }
 
 pub(crate) fn junction_keeps(progress: Progress, junction: u32) -> bool
     ensures { result ≡ junction_keeps_lem progress junction }
 {
-    both(junction < progress.junctions, progress.unnamed <= junction)
+    (junction < progress.junctions) & (progress.unnamed <= junction)
 }
 
 pub(crate) fn arc_fits(progress: Progress, tail: u32, head: u32, metres: u32) -> bool
     ensures { result ≡ arc_fits_lem progress tail head metres }
 {
     let junctions = progress.junctions;
-    both(
-        both(
-            both(both(tail < junctions, head < junctions), tail != head),
-            both(0 < metres, metres <= MAX_LENGTH),
-        ),
-        progress.arcs < MAX_ARCS as u32,
-    )
+    (tail < junctions)
+        & (head < junctions)
+        & (tail != head)
+        & ((0 < metres) & (metres <= MAX_LENGTH))
+        & (progress.arcs < MAX_ARCS as u32)
 }

@@ -3,171 +3,138 @@
 ghost use Rattle.std.specs.Prelude.{◌≡◌};
 ghost use Rattle.townfile.specs.Lines.{arc_fields, arc_keeps_lem};
 ghost use Rattle.number_rows.specs.NumbersRead.{numbers_read};
-ghost use Rattle.reading.specs.LineSteps.{outcome_of, step_of_line};
-ghost use Rattle.reading.specs.Code.Kinds.{of_numbers_lem, town_step, fences_step, junction_step, arc_step, comment_step};
+ghost use Rattle.refusals.specs.Answers.{outcome_of};
+ghost use Rattle.reading.specs.LineSteps.{step_of_line};
+ghost use Rattle.reading.specs.Code.Kinds.{town_step, fences_step, junction_step, arc_step, comment_step};
 
 use crate::limits::{arc_fits, junction_keeps, town_keeps};
-use fields::field::{Field, Rest, mark_at, name_at, printable, read_field};
-use number_rows::numbers::{Numbers, fences_read, numbers_end, within_if};
+use fields::field::{mark_at, name_at, printable, read_field};
+use number_rows::numbers::{fences_read, numbers_end};
 use number_rows::speeds::{long_row, row_read};
 use refusals::refusal::Refusal;
 use townfile::mark::{ARC, COMMENT, FENCES, HELD_TOWN, JUNCTION, TOWN};
 use townfile::progress::Progress;
 
+// What is settled behind a line, and where the line ends.
 #[derive(Clone, Copy)]
-pub enum LineRead {
-    Next { progress: Progress, end: usize },
-    Fault(Refusal),
-}
-
-// A line of numbers, and the progress behind it.
-fn of_numbers(numbers: Numbers, next: Progress) -> LineRead
-    ensures { outcome_of result ≡ of_numbers_lem numbers next }
-{
-    match numbers {
-        Numbers::Within(end) => LineRead::Next {
-            progress: next,
-            end,
-        },
-        Numbers::Outside => LineRead::Fault(Refusal::FieldValue),
-        Numbers::Malformed => LineRead::Fault(Refusal::FieldForm),
-    }
+pub struct LineRead {
+    pub progress: Progress,
+    pub end: usize,
 }
 
 // ---- A line of each kind, from the place behind its mark
 
 // TN, or TW in the new form.
-fn town_line(progress: Progress, held: bool, text: &[u8], at: usize) -> LineRead
+fn town_line(progress: Progress, held: bool, text: &[u8], at: usize) -> Result<LineRead, Refusal>
     ensures { outcome_of result ≡ town_step progress held text.now at }
 {
     if progress.turn != Progress::TOWN_DUE {
-        return LineRead::Fault(Refusal::MarkOutOfTurn);
+        return Err(Refusal::MarkOutOfTurn);
     }
-    let Field::Number {
-        value: junctions,
-        next: second,
-    } = read_field(text, at)
-    else {
-        return LineRead::Fault(Refusal::FieldForm);
+    let Some(junctions) = read_field(text, at) else {
+        return Err(Refusal::FieldForm);
     };
-    let Field::Number {
-        value: intervals,
-        next: end,
-    } = read_field(text, second)
-    else {
-        return LineRead::Fault(Refusal::FieldForm);
+    let Some(intervals) = read_field(text, junctions.next) else {
+        return Err(Refusal::FieldForm);
     };
-    let numbers = numbers_end(text, end, town_keeps(junctions, intervals));
-    of_numbers(numbers, progress.after_town(held, junctions, intervals))
+    let within = town_keeps(junctions.value, intervals.value);
+    let end = numbers_end(text, intervals.next, within)?;
+    Ok(LineRead {
+        progress: progress.after_town(held, junctions.value, intervals.value),
+        end,
+    })
 }
 
-fn fences_line(progress: Progress, text: &[u8], at: usize) -> LineRead
+fn fences_line(progress: Progress, text: &[u8], at: usize) -> Result<LineRead, Refusal>
     ensures { outcome_of result ≡ fences_step progress text.now at }
 {
     if progress.turn != Progress::FENCES_DUE {
-        return LineRead::Fault(Refusal::MarkOutOfTurn);
+        return Err(Refusal::MarkOutOfTurn);
     }
-    let numbers = fences_read(text, at, progress.intervals);
-    of_numbers(numbers, progress.after_fences())
+    let end = fences_read(text, at, progress.intervals)?;
+    Ok(LineRead {
+        progress: progress.after_fences(),
+        end,
+    })
 }
 
 #[tactic(auto, unfolding(crate::specs::Code::Kinds::junction_step))]
-fn junction_line(progress: Progress, text: &[u8], at: usize) -> LineRead
+fn junction_line(progress: Progress, text: &[u8], at: usize) -> Result<LineRead, Refusal>
     ensures { outcome_of result ≡ junction_step progress text.now at }
 {
     if progress.turn != Progress::NAMES_DUE {
-        return LineRead::Fault(Refusal::MarkOutOfTurn);
+        return Err(Refusal::MarkOutOfTurn);
     }
-    let Field::Number {
-        value: junction,
-        next,
-    } = read_field(text, at)
-    else {
-        return LineRead::Fault(Refusal::FieldForm);
+    let Some(junction) = read_field(text, at) else {
+        return Err(Refusal::FieldForm);
     };
-    let Rest::Good(end) = name_at(text, next) else {
-        return LineRead::Fault(Refusal::FieldForm);
+    let Some(end) = name_at(text, junction.next) else {
+        return Err(Refusal::FieldForm);
     };
-    if !junction_keeps(progress, junction) {
-        return LineRead::Fault(Refusal::FieldValue);
+    if !junction_keeps(progress, junction.value) {
+        return Err(Refusal::FieldValue);
     }
-    LineRead::Next {
-        progress: progress.after_name(junction + 1),
+    Ok(LineRead {
+        progress: progress.after_name(junction.value + 1),
         end,
-    }
+    })
 }
 
-// The numbers of an arc: tail, head and length, then the speeds, and in the new form the hold.
-fn arc_read(progress: Progress, text: &[u8], at: usize) -> Numbers
+// The numbers of an arc: tail, head and length, then the speeds, and in the new form the hold. It answers where they end.
+fn arc_read(progress: Progress, text: &[u8], at: usize) -> Result<usize, Refusal>
     ensures { result ≡ numbers_read (arc_keeps_lem progress) (arc_fields progress) text.now at }
 {
-    let Field::Number {
-        value: tail,
-        next: second,
-    } = read_field(text, at)
-    else {
-        return Numbers::Malformed;
+    let Some(tail) = read_field(text, at) else {
+        return Err(Refusal::FieldForm);
     };
-    let Field::Number {
-        value: head,
-        next: third,
-    } = read_field(text, second)
-    else {
-        return Numbers::Malformed;
+    let Some(head) = read_field(text, tail.next) else {
+        return Err(Refusal::FieldForm);
     };
-    let Field::Number {
-        value: metres,
-        next: fourth,
-    } = read_field(text, third)
-    else {
-        return Numbers::Malformed;
+    let Some(metres) = read_field(text, head.next) else {
+        return Err(Refusal::FieldForm);
     };
-    // Only a row that can still be within its limits is worth the short reading.
-    if !arc_fits(progress, tail, head, metres) {
-        let read = long_row(text, fourth, progress.intervals, progress.held);
-        return within_if(read, false);
+    // Only a row that can still be within its limits is worth the short reading. Any other may still be of the wrong form.
+    if !arc_fits(progress, tail.value, head.value, metres.value) {
+        long_row(text, metres.next, progress.intervals, progress.held)?;
+        return Err(Refusal::FieldValue);
     }
-    row_read(text, fourth, progress.intervals, progress.held)
+    row_read(text, metres.next, progress.intervals, progress.held)
 }
 
-fn arc_line(progress: Progress, text: &[u8], at: usize) -> LineRead
+fn arc_line(progress: Progress, text: &[u8], at: usize) -> Result<LineRead, Refusal>
     ensures { outcome_of result ≡ arc_step progress text.now at }
 {
     if progress.turn < Progress::NAMES_DUE {
-        return LineRead::Fault(Refusal::MarkOutOfTurn);
+        return Err(Refusal::MarkOutOfTurn);
     }
-    let numbers = arc_read(progress, text, at);
+    let end = arc_read(progress, text, at)?;
     // Only an arc within the limits is counted.
-    let Numbers::Within(end) = numbers else {
-        return of_numbers(numbers, progress);
-    };
-    LineRead::Next {
+    Ok(LineRead {
         progress: progress.after_arc(progress.arcs + 1),
         end,
-    }
+    })
 }
 
-fn comment_line(progress: Progress, text: &[u8], at: usize) -> LineRead
+fn comment_line(progress: Progress, text: &[u8], at: usize) -> Result<LineRead, Refusal>
     ensures { outcome_of result ≡ comment_step progress text.now at }
 {
     if text.len() <= at {
-        return LineRead::Next { progress, end: at };
+        return Ok(LineRead { progress, end: at });
     }
-    let first = text[at];
-    match first {
-        b'\n' => LineRead::Next { progress, end: at },
+    match text[at] {
+        b'\n' => Ok(LineRead { progress, end: at }),
         b' ' => {
-            let Rest::Good(end) = printable(text, at) else {
-                return LineRead::Fault(Refusal::FieldForm);
+            let Some(end) = printable(text, at) else {
+                return Err(Refusal::FieldForm);
             };
-            LineRead::Next { progress, end }
+            Ok(LineRead { progress, end })
         }
-        _ => LineRead::Fault(Refusal::FieldForm),
+        _ => Err(Refusal::FieldForm),
     }
 }
 
 // Any line, by its mark.
-pub fn read_line(progress: Progress, text: &[u8], at: usize) -> LineRead
+pub fn read_line(progress: Progress, text: &[u8], at: usize) -> Result<LineRead, Refusal>
     ensures { outcome_of result ≡ step_of_line progress text.now at }
 {
     let mark = mark_at(text, at);
@@ -177,6 +144,6 @@ pub fn read_line(progress: Progress, text: &[u8], at: usize) -> LineRead
         JUNCTION => junction_line(progress, text, at + 2),
         ARC => arc_line(progress, text, at + 2),
         COMMENT => comment_line(progress, text, at + 2),
-        _ => LineRead::Fault(Refusal::UnknownMark),
+        _ => Err(Refusal::UnknownMark),
     }
 }

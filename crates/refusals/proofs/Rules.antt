@@ -114,12 +114,10 @@ true_three a b c e =
 
 module _ {A : Type 0} (test : A → Bool) (d : A) where
   pub every_at : (xs : List A) → every test xs ≡ true → (k : ℕ) → k < length xs → test (get_or xs k d) ≡ true
-  unfolding every
   every_at [] e k h = absurd (omega arith)
   every_at (x ∷ xs) e zero h = (true_both (test x) (every test xs) e).0
   every_at (x ∷ xs) e (suc k) h = every_at xs (true_both (test x) (every test xs) e).1 k (omega arith)
 
   pub at_every : (xs : List A) → ((k : ℕ) → k < length xs → test (get_or xs k d) ≡ true) → every test xs ≡ true
-  unfolding every
   at_every [] all = refl
   at_every (x ∷ xs) all = both_true (all 0 (omega arith)) (at_every xs (λ k h. all (suc k) (omega arith)))

@@ -1,6 +1,7 @@
 -- How an operation refuses: its rules "in this order, each over the whole table before the next", each a number and a test, of which the
 -- first that is broken counts; and a test that runs through a table.
-use Rattle.std.specs.Prelude.{ℕ, ◌<◌, ◌≡◌, ◌↔◌, Bool, true, false, ◌&&◌, cond, List, [], ◌∷◌, length, get_or, take}
+use Rattle.std.specs.List.{list_all}
+use Rattle.std.specs.Prelude.{ℕ, ◌<◌, ◌≡◌, ◌↔◌, Bool, true, false, cond, List, [], ◌∷◌, length, get_or, take}
 
 -- What an operation comes to: the refusal's number, or the reply.
 pub data Outcome (Reply : Type 0) : Type 0 where
@@ -41,6 +42,5 @@ RefusedExactlyWhen = (Reply : Type 0) (rules : List Rule) (reply : Reply) (numbe
     ↔ ((k : ℕ) × (k < length rules) × AllKept (take k rules) × ((get_or rules k (0 if false)).broken ≡ true) × ((get_or rules k (0 if false)).number ≡ number))
 
 -- A test that runs through a whole table.
-unfoldable pub every : {A : Type 0} → (A → Bool) → List A → Bool
-every test [] = true
-every test (x ∷ xs) = test x && every test xs
+abbrev pub every : {A : Type 0} → (A → Bool) → List A → Bool
+every test xs = list_all test xs

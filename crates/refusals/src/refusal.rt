@@ -1,55 +1,55 @@
-// Every refusal of the operations, by name, its number, and its code for a caller from C.
+// Every refusal of the operations, by name and number, and its code for a caller from C.
 ghost use Rattle.std.specs.Prelude.{◌≡◌, ◌+◌};
 ghost use Rattle.refusals.specs.Refusals.{number_of, refusal_base};
 
-#[derive(Clone, Copy)]
+#[derive(Clone, Copy, Debug, PartialEq, Eq)]
 pub enum Refusal {
     // The network's rules.
-    JunctionCount,
-    IntervalCount,
-    ArcCount,
-    TableLength,
-    Fence,
-    ArcEnds,
-    Length,
-    Speed,
-    Hold,
+    JunctionCount = 1,
+    IntervalCount = 2,
+    ArcCount = 3,
+    TableLength = 4,
+    Fence = 5,
+    ArcEnds = 6,
+    Length = 7,
+    Speed = 8,
+    Hold = 32,
     // The closures', and who asks.
-    ClosureCount,
-    Closure,
-    ClosureParty,
-    Asker,
+    ClosureCount = 36,
+    Closure = 37,
+    ClosureParty = 38,
+    Asker = 39,
     // The question's.
-    Source,
-    Departure,
-    BufferLength,
-    Destination,
-    Unreached,
-    ArcListLength,
-    DepartureAfterLast,
+    Source = 9,
+    Departure = 10,
+    BufferLength = 11,
+    Destination = 12,
+    Unreached = 13,
+    ArcListLength = 14,
+    DepartureAfterLast = 15,
     // The town file's.
-    TextLength,
-    NoLineFeed,
-    LineLength,
-    UnknownMark,
-    MarkOutOfTurn,
-    FieldForm,
-    FieldValue,
-    LineMissing,
-    TableTooShort,
+    TextLength = 20,
+    NoLineFeed = 21,
+    LineLength = 22,
+    UnknownMark = 23,
+    MarkOutOfTurn = 24,
+    FieldForm = 25,
+    FieldValue = 26,
+    LineMissing = 27,
+    TableTooShort = 28,
     // The converters'.
-    FormAlready,
-    HoldDropped,
-    OutputLength,
+    FormAlready = 33,
+    HoldDropped = 34,
+    OutputLength = 35,
     // The sheet's.
-    DepartureCount,
-    SheetLength,
+    DepartureCount = 30,
+    SheetLength = 31,
     // Arc arrival's.
-    DepartureInterval,
+    DepartureInterval = 46,
     // The week store's.
-    WeekList,
-    VersionOrDay,
-    WeekStore,
+    WeekList = 40,
+    VersionOrDay = 41,
+    WeekStore = 42,
 }
 
 impl Refusal {
@@ -60,46 +60,7 @@ impl Refusal {
     pub fn number(self) -> u32
         ensures { result ≡ number_of self }
     {
-        match self {
-            Refusal::JunctionCount => 1,
-            Refusal::IntervalCount => 2,
-            Refusal::ArcCount => 3,
-            Refusal::TableLength => 4,
-            Refusal::Fence => 5,
-            Refusal::ArcEnds => 6,
-            Refusal::Length => 7,
-            Refusal::Speed => 8,
-            Refusal::Source => 9,
-            Refusal::Departure => 10,
-            Refusal::BufferLength => 11,
-            Refusal::Destination => 12,
-            Refusal::Unreached => 13,
-            Refusal::ArcListLength => 14,
-            Refusal::DepartureAfterLast => 15,
-            Refusal::TextLength => 20,
-            Refusal::NoLineFeed => 21,
-            Refusal::LineLength => 22,
-            Refusal::UnknownMark => 23,
-            Refusal::MarkOutOfTurn => 24,
-            Refusal::FieldForm => 25,
-            Refusal::FieldValue => 26,
-            Refusal::LineMissing => 27,
-            Refusal::TableTooShort => 28,
-            Refusal::DepartureCount => 30,
-            Refusal::SheetLength => 31,
-            Refusal::Hold => 32,
-            Refusal::FormAlready => 33,
-            Refusal::HoldDropped => 34,
-            Refusal::OutputLength => 35,
-            Refusal::ClosureCount => 36,
-            Refusal::Closure => 37,
-            Refusal::ClosureParty => 38,
-            Refusal::Asker => 39,
-            Refusal::WeekList => 40,
-            Refusal::VersionOrDay => 41,
-            Refusal::WeekStore => 42,
-            Refusal::DepartureInterval => 46,
-        }
+        self as u32
     }
 
     // Where a caller from C is answered a tick or a count, a refusal stands above them all.

@@ -3,16 +3,14 @@
 use Prim.Native.Nat.{ℕ, zero, suc, ◌+◌, ◌≤◌, ◌<◌, zero-le, suc-le-suc}
 use mathlib.Core.Path.{◌≡◌, refl, sym, ap, ◌∙◌}
 use mathlib.Core.Bool.{Bool, true, false, cond}
-use mathlib.Core.List.{List, [], ◌∷◌, ◌++◌, reverse, reverse_aux, append_assoc}
+use mathlib.Core.List.{List, [], ◌∷◌, ◌++◌, reverse_aux, append_assoc}
 use native.Mathlib.Omega.{arith}
 use lib.Dec.{eqb}
-use lib.ListN.{length, get_or, set, take, drop, take-append-drop, length-set}
+use lib.ListN.{length, get_or, set, take, drop, length-set}
 use lib.Seq.{take-suc, set_at, length-take-le}
 use Rattle.model.specs.Labels.{no_arc}
 use Rattle.model.specs.Routes.{arcs_back}
 use Rattle.routing.specs.Code.Following.{back_from, HasStep, StepIs, Leads, here, back}
-use Rattle.routing.specs.declared.route.StepBack.{StepBack}
-use Rattle.model.specs.Rules.{written}
 
 -- No more arcs are found than are allowed.
 at_most : (at : Bool) (a : ℕ) (before : List ℕ) (most : ℕ) → length before ≤ most → length (cond at [] (a ∷ before)) ≤ suc most
@@ -47,10 +45,6 @@ module _ {tails : List ℕ} {source : ℕ} {predecessors : List ℕ} where
   some_arc here other = absurd (other refl)
   some_arc (back j other' has rest) other = omega arith
 
-  has_no_arc : {j : ℕ} {arcs : List ℕ} → Leads tails source predecessors j arcs → j ≡ source → length arcs ≡ 0
-  has_no_arc here e = refl
-  has_no_arc (back j other has rest) e = absurd (other e)
-
 -- ---- Counting
 
 pub record Counting (tails : List ℕ) (source : ℕ) (predecessors : List ℕ) (total j count : ℕ) : Type 0 where
@@ -58,24 +52,9 @@ pub record Counting (tails : List ℕ) (source : ℕ) (predecessors : List ℕ) 
   pub leads : Leads tails source predecessors j left
   pub adds_up : count + length left ≡ total
 
-pub counting_starts : {tails : List ℕ} {source : ℕ} {predecessors : List ℕ} {j : ℕ} {arcs : List ℕ} → Leads tails source predecessors j arcs →
-    Counting tails source predecessors (length arcs) j 0
-counting_starts {arcs} l = record { left = arcs; leads = l; adds_up = omega arith }
-
 module _ {tails : List ℕ} {source : ℕ} {predecessors : List ℕ} {total j count : ℕ} (c : Counting tails source predecessors total j count) where
-  pub counting_step : (j ≡ source → ⊥) → LeadsOn tails source predecessors j c.left
-  counting_step other = step_of c.leads (some_arc c.leads other)
-
   pub counting_more : (j ≡ source → ⊥) → count < total
   counting_more other = omega (arith, some_arc c.leads other, c.adds_up)
-
-  pub counting_goes_on : (j ≡ source → ⊥) → {step : StepBack} → StepIs tails predecessors j step → Counting tails source predecessors total step.tail (count + 1)
-  counting_goes_on other made =
-      let s = counting_step other in
-      rw made.tail_is record { left = s.rest; leads = s.leads_on; adds_up = omega (arith, c.adds_up, ap length s.arcs_are) }
-
-  pub counting_ends : j ≡ source → count ≡ total
-  counting_ends e = omega (arith, c.adds_up, has_no_arc c.leads e)
 
 -- ---- Writing
 
@@ -90,26 +69,12 @@ pub record Writing (tails : List ℕ) (source : ℕ) (predecessors route before 
   pub k_fits : k ≤ length before
   pub arcs_long : length arcs ≡ length before
 
-pub writing_starts : {tails : List ℕ} {source : ℕ} {predecessors : List ℕ} {j count : ℕ} {back-arcs before : List ℕ} →
-    Leads tails source predecessors j back-arcs → count ≡ length back-arcs → count ≤ length before →
-    Writing tails source predecessors (reverse back-arcs) before before count j count
-writing_starts {count} {back-arcs} {before} l same fits = record {
-  left = back-arcs;
-  done = [];
-  leads = l;
-  k_left = same;
-  make_route = refl;
-  arcs_are = sym (take-append-drop count before);
-  k_fits = fits;
-  arcs_long = refl;
-}
-
 module _ {tails : List ℕ} {source : ℕ} {predecessors route before arcs : List ℕ} {count j k : ℕ} (w : Writing tails source predecessors route before arcs count j k) where
   pub writing_step : 0 < k → LeadsOn tails source predecessors j w.left
   writing_step some = step_of w.leads (omega (arith, w.k_left))
 
-  pub writing_goes_on : (p : ℕ) → suc p ≡ k → {step : StepBack} → StepIs tails predecessors j step →
-      Writing tails source predecessors route before (set arcs p step.arc) count step.tail p
+  pub writing_goes_on : (p : ℕ) → suc p ≡ k → {step : ℕ × ℕ} → StepIs tails predecessors j step →
+      Writing tails source predecessors route before (set arcs p step.0) count step.1 p
   writing_goes_on p less made =
       let s = writing_step (omega arith) in
       let a = get_or predecessors j 0 in
@@ -127,13 +92,3 @@ module _ {tails : List ℕ} {source : ℕ} {predecessors route before arcs : Lis
         k_fits = omega arith;
         arcs_long = length-set arcs p a ∙ w.arcs_long;
       }
-
-  pub writing_ends : k ≡ 0 → count ≡ length route → arcs ≡ written route before
-  writing_ends none same =
-      let nothing_left : w.left ≡ [] = empty w.left (omega (arith, w.k_left)) in
-      let all : w.done ≡ route = rw nothing_left at w.make_route in
-      rw (none, all, same) at w.arcs_are
-    where
-      empty : (xs : List ℕ) → length xs ≡ 0 → xs ≡ []
-      empty [] e = refl
-      empty (x ∷ xs) e = absurd (omega arith)

@@ -3,8 +3,7 @@
 -- numbers in driving order, found by following predecessors; later entries are unchanged. From the source to itself: 0 arcs." By
 -- document 02, order 5, 32 stands after 8, and by orders 7 and 8, 36 to 39 after it. The network has the whole list of closures; the route is
 -- that of the network as the asker finds it.
-use Rattle.std.specs.Prelude.{ℕ, ◌≤◌, ◌<◌, ◌≡◌, not, List, [], ◌∷◌, ◌++◌, ◌↔◌, ltb, eqb, length, take}
-use Rattle.std.proofs.Math.Option.{Option, none, some}
+use Rattle.std.specs.Prelude.{ℕ, ◌≤◌, ◌<◌, ◌≡◌, not, List, [], ◌∷◌, ◌++◌, ◌↔◌, ltb, eqb, length, take, Option, None, Some, Result, Ok, Err}
 use Rattle.model.specs.Ticks.{never}
 use Rattle.model.specs.Network.{Network, network_for, net_of}
 use Rattle.model.specs.Parties.{KnownAsker}
@@ -13,18 +12,18 @@ use Rattle.model.specs.Routes.{route_of, Driven}
 use Rattle.refusals.specs.Refusals.{number_of}
 use Rattle.model.specs.Rules.{Outcome, refused, replied, Rule, ◌if◌, first_broken, after, written}
 use Rattle.checking.specs.Question.{question_rules, Taken}
+use Rattle.refusals.specs.declared.refusal.Refusal.{Refusal}
 use Rattle.routing.specs.declared.route.Routed.{Routed}
-use Rattle.routing.specs.declared.route.Routed.TheVariants.{Arcs, Refused}
 
--- The answer's number and value.
-abbrev pub outcome_of : Routed → Outcome ℕ
-outcome_of (Arcs count arrival) = replied count
-outcome_of (Refused refusal) = refused (number_of refusal)
+-- What Route comes to: the number of arcs, or a refusal.
+abbrev pub route_outcome : Result Routed Refusal → Outcome ℕ
+route_outcome (Ok route) = replied route.count
+route_outcome (Err refusal) = refused (number_of refusal)
 
 -- What the answer says of the arrival: a refusal says nothing.
-abbrev pub arrival_of : Routed → Option ℕ
-arrival_of (Arcs count arrival) = some arrival
-arrival_of (Refused refusal) = none
+abbrev pub arrival_of : Result Routed Refusal → Option ℕ
+arrival_of (Ok route) = Some route.arrival
+arrival_of (Err refusal) = None
 
 -- The rule on the destination, after those of the question; and those on what is then found, in the network as the asker finds it.
 abbrev pub destination_rules : Network → ℕ → List Rule
@@ -43,8 +42,8 @@ route_answer N asker source departure destination arcs =
 
 -- Where the call replies, the destination's label.
 abbrev pub with_reply : Outcome ℕ → ℕ → Option ℕ
-with_reply (refused number) arrival = none
-with_reply (replied count) arrival = some arrival
+with_reply (refused number) arrival = None
+with_reply (replied count) arrival = Some arrival
 
 abbrev pub route_arrival : Network → ℕ → ℕ → ℕ → ℕ → List ℕ → Option ℕ
 route_arrival N asker source departure destination arcs =

@@ -19,12 +19,13 @@ use Rattle.townfile.specs.FirstFault.{refused_at, start, at_end, onward, lines_f
 use Rattle.townfile.specs.declared.progress.Progress.{Progress}
 use Rattle.townfile.proofs.Pieces.{pieces_next}
 use Rattle.fields.specs.Fields.{line_from}
-use Rattle.reading.specs.LineSteps.{Step, step, step_of_line}
-use Rattle.scanning.specs.Scans.{fault_of, unless_fault, whole_line}
+use Rattle.reading.specs.LineSteps.{step, step_of_line}
+use Rattle.reading.specs.declared.line.LineRead.{LineRead}
+use Rattle.scanning.specs.Scans.{line_keeps_lem, fault_of, unless_fault, whole_line}
 use Rattle.fields.proofs.LineFrom.{line_inside}
 use Rattle.scanning.proofs.RestLines.{next_lines, last_line}
 
-replied_same : {s t : Step} → replied s ≡ replied t → s ≡ t
+replied_same : {s t : LineRead} → replied s ≡ replied t → s ≡ t
 replied_same e = cc
 
 refused_same : {Reply : Type 0} {a b : ℕ} → ◌≡◌ {A = Outcome Reply} (refused a) (refused b) → a ≡ b
@@ -40,14 +41,14 @@ module _ (p : Progress) (text : List ℕ) (at : ℕ) where
   end = at + length (line_from text at)
 
   -- 21 and 22 before what the line comes to.
-  abbrev first_of : Bool → Bool → Outcome Step → Outcome Step
+  abbrev first_of : Bool → Bool → Outcome LineRead → Outcome LineRead
   first_of unended long outcome = cond unended (refused 21) (cond long (refused 22) outcome)
 
   whole_is : whole_line p text at ≡ first_of (eqb end (length text)) (ltb 700 (length (line_from text at))) (step_of_line p text at)
   unfolding whole_line
   whole_is = go (step_of_line p text at) (eqb end (length text)) refl (ltb 700 (length (line_from text at))) refl
     where
-      go : (o : Outcome Step) (none : Bool) → eqb end (length text) ≡ none → (long : Bool) → ltb 700 (length (line_from text at)) ≡ long →
+      go : (o : Outcome LineRead) (none : Bool) → eqb end (length text) ≡ none → (long : Bool) → ltb 700 (length (line_from text at)) ≡ long →
           unless_fault text at o ≡ first_of none long o
       go (refused fault) true e long l = rw e
       go (refused fault) false e true l = rw (e, l)
@@ -69,11 +70,31 @@ module _ (p : Progress) (text : List ℕ) (at : ℕ) where
   unfolding whole_line
   line_faults e f = ap refused f ∙ ap (unless_fault text at) e
 
+  -- Its line feed and its length refuse the line, or leave it to its bytes.
+  module _ {at_end_law : ℕ} (is : at_end_law ≡ end) where
+    pub keeps_refuse : {fault : ℕ} → refused fault ≡ line_keeps_lem text at at_end_law → refused fault ≡ whole_line p text at
+    keeps_refuse e = elim (eqb_cases at_end_law (length text)) [
+      | inl none ↦ ap refused (refused_same (rw none.0 at e)) ∙ line_without_feed (sym is ∙ none.1)
+      | inr feed ↦ elim (ltb_cases 700 (at_end_law - at)) [
+        | inl long ↦ ap refused (refused_same (rw (feed.0, long.0) at e)) ∙ line_too_long (λ x. feed.1 (is ∙ x)) (omega (arith, long.1))
+        | inr short ↦ absurd (neither (rw (feed.0, short.0) at e))
+      ]
+    ]
+
+    pub keeps_pass : replied tt ≡ line_keeps_lem text at at_end_law → step_of_line p text at ≡ whole_line p text at
+    keeps_pass e = elim (eqb_cases at_end_law (length text)) [
+      | inl none ↦ absurd (neither (sym (rw none.0 at e)))
+      | inr feed ↦ elim (ltb_cases 700 (at_end_law - at)) [
+        | inl long ↦ absurd (neither (sym (rw (feed.0, long.0) at e)))
+        | inr short ↦ line_of_bytes (λ x. feed.1 (is ∙ x)) (omega (arith, short.1))
+      ]
+    ]
+
   -- The rules of a line's bytes, and what they let through.
   abbrev bytes_rules : List Rule
   bytes_rules = drop 1 (line_rules p (line_from text at))
 
-  abbrev bytes_reply : Step
+  abbrev bytes_reply : LineRead
   bytes_reply = step (line_read p (line_from text at)) end
 
   -- A line that is read ends where it ends, and its rules are kept.
@@ -167,19 +188,3 @@ text_too_long text h = rw (lt-ltb 65536 (length text) h)
 pub scan_starts : (text : List ℕ) → length text ≤ 65536 → lines_from start 1 (pieces line_feed (drop 0 text)) ≡ first_fault text
 unfolding first_fault
 scan_starts text h = rw (le-ltb 65536 (length text) h)
-
--- ---- The fault of a line
-
-module _ (text : List ℕ) (at fault : ℕ) where
-  pub fault_unended : at + length (line_from text at) ≡ length text → 21 ≡ fault_of text at fault
-  fault_unended e = rw (eq-eqb (at + length (line_from text at)) (length text) e)
-
-  module _ {end : ℕ} (is : end ≡ at + length (line_from text at)) (feed : end ≡ length text → ⊥) where
-    unequal : at + length (line_from text at) ≡ length text → ⊥
-    unequal e = feed (is ∙ e)
-
-    pub fault_long : 700 < end - at → 22 ≡ fault_of text at fault
-    fault_long l = rw (ne_eqb (at + length (line_from text at)) (length text) unequal, lt-ltb 700 (length (line_from text at)) (omega arith))
-
-    pub fault_itself : end - at ≤ 700 → fault ≡ fault_of text at fault
-    fault_itself l = rw (ne_eqb (at + length (line_from text at)) (length text) unequal, le-ltb 700 (length (line_from text at)) (omega arith))

@@ -1,5 +1,6 @@
 pub mod Answers
 pub mod LineByLine
+pub mod Listed
 pub mod Meaning
 pub mod Networks
 pub mod Questions

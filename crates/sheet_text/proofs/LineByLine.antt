@@ -8,9 +8,10 @@ use lib.ListN.{length, get_or, take, length-append}
 use lib.Seq.{get_or-take}
 use Rattle.sheeting.specs.Figures.{figure_in}
 use Rattle.formatting.specs.Digits.{digits_of}
-use Rattle.formatting.specs.Putting.{PutIfRoom}
+use Rattle.formatting.specs.Output.{Puts}
+use Rattle.formatting.specs.declared.output.Output.{Output}
 use Rattle.formatting.proofs.Digits.{tens, digits_short}
-use Rattle.formatting.proofs.Putting.{room_then}
+use Rattle.formatting.proofs.Putting.{nothing_put, puts_then}
 use Rattle.sheet_text.specs.Answer.{sheet_line, line_of, sheet_lines}
 use Rattle.sheet_text.specs.Code.Parts.{LinesFit}
 
@@ -26,13 +27,17 @@ module _ (figures : List ℕ) where
       ∙ sym (append_assoc (line_of figures j) (sheet_lines figures (suc j) k) (line_of figures (j + suc k)))
 
   -- the line as the code reads its figures
-  pub line_put : (j : ℕ) {before between after : List ℕ} {at middle behind : ℕ} → PutIfRoom (sheet_lines figures 0 j) at before between middle →
-      PutIfRoom (sheet_line j (get_or figures (4 * j) 0) (get_or figures (4 * j + 1) 0) (get_or figures (4 * j + 2) 0) (get_or figures (4 * j + 3) 0)) middle between after behind →
-      PutIfRoom (sheet_lines figures 0 (j + 1)) at before after behind
+  pub line_put : (j : ℕ) {before between after : Output} → Puts (sheet_lines figures 0 j) before between →
+      Puts (sheet_line j (get_or figures (4 * j) 0) (get_or figures (4 * j + 1) 0) (get_or figures (4 * j + 2) 0) (get_or figures (4 * j + 3) 0)) between after →
+      Puts (sheet_lines figures 0 (j + 1)) before after
   line_put j puts puts-line =
       let here : 0 + j ≡ j = omega arith in
       let first : 4 * j + 0 ≡ 4 * j = omega arith in
-      rw (add-one j, lines_more 0 j, here, first) (room_then puts puts-line)
+      rw (add-one j, lines_more 0 j, here, first) (puts_then puts puts-line)
+
+  pub none_put : (before : Output) → Puts (sheet_lines figures 0 0) before before
+  unfolding sheet_lines
+  none_put before = record { lent = refl; puts = nothing_put before.buffer.now before.length }
 
   -- ---- A table's lines are those of its start
 

@@ -19,7 +19,7 @@ use Rattle.townfile.specs.declared.progress.Progress.{Progress}
 use Rattle.townfile.proofs.Described.{faultless_described}
 use Rattle.sheeting.specs.Sheet.{max_departures, in_day, ShiftTaken}
 use Rattle.sheeting.proofs.Means.{figures_of_network_mean}
-use Rattle.sheeting.proofs.SheetRules.{none_listed, too_many_listed, count_kept}
+use Rattle.sheet_text.proofs.Listed.{none_listed, too_many_listed, count_kept}
 use Rattle.question_line.proofs.Answers.{rest_bytes}
 use Rattle.question_line.proofs.Towns.{answer_faulty, answer_described}
 use Rattle.formatting.specs.Texts.{refusal_text, answer_text}

@@ -25,7 +25,8 @@ use Rattle.townfile.specs.FirstFault.{refused_at, accepted, first_fault}
 use Rattle.sheeting.specs.Figures.{reaching, journey, journeys, four_of, figures_from, figures_of, figure_in}
 use Rattle.sheeting.specs.Sheet.{ShiftTaken, shift_rules, sheet_buffer_rules, sheet_answer, sheet_figures_after}
 use Rattle.sheeting.proofs.Means.{figure_is}
-use Rattle.sheeting.proofs.SheetRules.{too_many_listed, sheet_replies_when_sheetable}
+use Rattle.sheeting.proofs.SheetRules.{sheet_replies_when_sheetable}
+use Rattle.sheet_text.proofs.Listed.{too_many_listed}
 use Rattle.question_line.specs.Answers.{at_line_zero, unless_faulty, in_town}
 use Rattle.sheet_text.specs.Answer.{sheet_in, network_sheet_lem, town_sheet_lem, sheet_lines}
 use Rattle.sheet_text.specs.Code.Parts.{LinesFit}

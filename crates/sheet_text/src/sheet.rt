@@ -1,12 +1,11 @@
 // What the program prints for its whole input.
-ghost use Rattle.std.specs.Prelude.{◌≡◌, [], ◌*◌, ◌≤◌, min, length, take};
-ghost use Rattle.model.specs.Lent.{lent_network, network_in};
+ghost use Rattle.std.specs.Prelude.{◌≡◌, ◌*◌, ◌≤◌, min, length, take, []};
 ghost use Rattle.model.specs.NetworkRules.{network_check_lem};
 ghost use Rattle.model.specs.Parties.{brigade};
 ghost use Rattle.model.specs.Rules.{replied, written};
-ghost use Rattle.townfile.specs.Load.{counts, LongEnough, network_at};
-ghost use Rattle.townfile.specs.Lent.{lent_tables, tables_in};
-ghost use Rattle.sheeting.specs.Sheet.{outcome_of, sheet_answer, sheet_figures_after};
+ghost use Rattle.model.specs.Lent.{lent_network};
+ghost use Rattle.refusals.specs.Answers.{outcome_of};
+ghost use Rattle.sheeting.specs.Sheet.{sheet_answer, sheet_figures_after};
 ghost use Rattle.formatting.specs.Texts.{is_refusal};
 ghost use Rattle.formatting.specs.Printed.{PrintedAnswer};
 ghost use Rattle.sheet_text.specs.Answer.{network_sheet_lem, town_sheet_lem, sheet_for, lines_of, sheet_text_lem};
@@ -14,12 +13,13 @@ ghost use Rattle.sheet_text.specs.Code.Parts.{PartsFit};
 
 use crate::lines::put_sheet;
 use formatting::text::{OUTPUT, Text, refuse};
-use loading::load::{Loaded, load};
-use model::limit::{MAX_ARCS, MAX_INTERVALS, MAX_JUNCTIONS};
+use loading::town::Town;
+use model::limit::MAX_JUNCTIONS;
+use model::network::Network;
 use model::party::BRIGADE;
 use question_line::line::{Asked, QUESTION, numbers_line};
 use refusals::refusal::Refusal;
-use sheeting::sheet::{FIGURES, MAX_DEPARTURES, Sheeted, sheet};
+use sheeting::sheet::{FIGURES, MAX_DEPARTURES, sheet};
 use townfile::limit::MAX_TEXT;
 
 // One departure more than a list may have, so that a longer list is refused without being kept whole.
@@ -27,38 +27,26 @@ const LISTED: usize = MAX_DEPARTURES + 1;
 
 // Lends the first entries of both buffers to the sheet: a label for each departure and junction, and each junction's figures.
 fn sheet_parts(
-    junctions: u32,
-    fences: &[u32],
-    tails: &[u16],
-    heads: &[u16],
-    lengths: &[u32],
-    holds: &[u16],
-    speeds: &[u8],
+    network: &Network<'_>,
     source: u32,
     departures: &[u32],
     labels: &mut [u32],
     figures: &mut [u32],
-) -> Sheeted
-    requires { PartsFit junctions departures.now labels.old figures.old }
+) -> Result<(), Refusal>
+    requires { PartsFit network.now.junctions departures.now labels.old figures.old }
     ensures answer { outcome_of result ≡
-        sheet_answer (lent_network junctions fences tails heads lengths holds speeds []) brigade source departures.now
-        (take (length departures.now * junctions) labels.old) (take (4 * junctions) figures.old) }
-    ensures figures { take (4 * junctions) figures.new ≡
-        sheet_figures_after (lent_network junctions fences tails heads lengths holds speeds []) brigade source departures.now
-        (take (length departures.now * junctions) labels.old) (take (4 * junctions) figures.old) }
+        sheet_answer (lent_network network.now []) brigade source departures.now
+        (take (length departures.now * network.now.junctions) labels.old) (take (4 * network.now.junctions) figures.old) }
+    ensures figures { take (4 * network.now.junctions) figures.new ≡
+        sheet_figures_after (lent_network network.now []) brigade source departures.now
+        (take (length departures.now * network.now.junctions) labels.old) (take (4 * network.now.junctions) figures.old) }
 {
-    let count = junctions as usize;
+    let count = network.junctions as usize;
     let labels_end = departures.len() * count;
     let figures_end = FIGURES * count;
     let no_closures = [[0u32; 4]; 0];
     sheet(
-        junctions,
-        fences,
-        tails,
-        heads,
-        lengths,
-        holds,
-        speeds,
+        network,
         &no_closures,
         BRIGADE,
         source,
@@ -70,79 +58,21 @@ fn sheet_parts(
 
 // The sheet of a network.
 fn network_sheet(
-    junctions: u32,
-    fences: &[u32],
-    tails: &[u16],
-    heads: &[u16],
-    lengths: &[u32],
-    holds: &[u16],
-    speeds: &[u8],
+    network: &Network<'_>,
     source: u32,
     departures: &[u32],
     output: &mut [u8; OUTPUT],
 ) -> Text
-    requires speeds_value { network_check_lem (network_in junctions fences tails heads lengths holds speeds []) ≡ replied tt }
+    requires speeds_value { network_check_lem (lent_network network.now []) ≡ replied tt }
     requires departures_len_bound { length departures.now ≤ 97 }
-    ensures { PrintedAnswer lines_of (network_sheet_lem (lent_network junctions fences tails heads lengths holds speeds []) source departures.now)
-        output.old output.new result }
+    ensures { PrintedAnswer lines_of (network_sheet_lem (lent_network network.now []) source departures.now) output.old output.new result }
 {
     let mut labels = [0u32; LISTED * MAX_JUNCTIONS];
     let mut figures = [0u32; FIGURES * MAX_JUNCTIONS];
-    match sheet_parts(
-        junctions,
-        fences,
-        tails,
-        heads,
-        lengths,
-        holds,
-        speeds,
-        source,
-        departures,
-        &mut labels,
-        &mut figures,
-    ) {
-        Sheeted::Refused(refusal) => refuse(output, refusal, 0),
-        Sheeted::Written => put_sheet(output, junctions, &figures),
+    match sheet_parts(network, source, departures, &mut labels, &mut figures) {
+        Err(refusal) => refuse(output, refusal, 0),
+        Ok(()) => put_sheet(output, network.junctions, &figures),
     }
-}
-
-// Lends the first entries of the tables as a network.
-fn loaded_sheet(
-    junctions: u32,
-    intervals: u32,
-    arcs: u32,
-    fences: &[u32],
-    tails: &[u16],
-    heads: &[u16],
-    lengths: &[u32],
-    holds: &[u16],
-    speeds: &[u8],
-    source: u32,
-    departures: &[u32],
-    output: &mut [u8; OUTPUT],
-) -> Text
-    requires long_enough { LongEnough (counts junctions intervals arcs) (tables_in fences tails heads lengths holds speeds) }
-    requires speeds_value { network_check_lem (network_at (counts junctions intervals arcs) (tables_in fences tails heads lengths holds speeds)) ≡ replied tt }
-    requires departures_len_bound { length departures.now ≤ 97 }
-    ensures { PrintedAnswer lines_of
-        (network_sheet_lem (network_at (counts junctions intervals arcs) (lent_tables fences tails heads lengths holds speeds)) source departures.now)
-        output.old output.new result }
-{
-    let width = intervals as usize;
-    let count = arcs as usize;
-    let speed_count = count * width;
-    network_sheet(
-        junctions,
-        &fences[..width],
-        &tails[..count],
-        &heads[..count],
-        &lengths[..count],
-        &holds[..count],
-        &speeds[..speed_count],
-        source,
-        departures,
-        output,
-    )
 }
 
 // The sheet of the town of a town file.
@@ -150,30 +80,10 @@ fn town_sheet(text: &[u8], source: u32, departures: &[u32], output: &mut [u8; OU
     requires { length departures.now ≤ 97 }
     ensures { PrintedAnswer lines_of (town_sheet_lem text.now source departures.now) output.old output.new result }
 {
-    let mut fences = [0u32; MAX_INTERVALS];
-    let mut tails = [0u16; MAX_ARCS];
-    let mut heads = [0u16; MAX_ARCS];
-    let mut lengths = [0u32; MAX_ARCS];
-    let mut holds = [0u16; MAX_ARCS];
-    let mut speeds = [0u8; MAX_ARCS * MAX_INTERVALS];
-    match load(
-        text,
-        &mut fences,
-        &mut tails,
-        &mut heads,
-        &mut lengths,
-        &mut holds,
-        &mut speeds,
-    ) {
-        Loaded::Refused { refusal, line } => refuse(output, refusal, line),
-        Loaded::Counts {
-            junctions,
-            intervals,
-            arcs,
-        } => loaded_sheet(
-            junctions, intervals, arcs, &fences, &tails, &heads, &lengths, &holds, &speeds, source,
-            departures, output,
-        ),
+    let mut town = Town::empty();
+    match town.load(text) {
+        Err(fault) => refuse(output, fault.refusal, fault.line),
+        Ok(counts) => network_sheet(&town.network(counts), source, departures, output),
     }
 }
 
@@ -181,7 +91,7 @@ fn town_sheet(text: &[u8], source: u32, departures: &[u32], output: &mut [u8; OU
 fn kept_count(count: usize) -> usize
     ensures { result ≡ min count 98 }
 {
-    if LISTED < count { LISTED + 1 } else { count }
+    count.min(LISTED + 1)
 }
 
 // The first number is the source, and the others are the departures.
@@ -194,7 +104,7 @@ pub fn sheet_text(input: &[u8], output: &mut [u8; OUTPUT]) -> Text
         return refuse(output, Refusal::TextLength, 0);
     }
     let mut numbers = [0u32; LISTED + 1];
-    let Asked::Numbers { count, next } = numbers_line(QUESTION, input, &mut numbers) else {
+    let Some(Asked { count, next }) = numbers_line(QUESTION, input, &mut numbers) else {
         return refuse(output, Refusal::FieldForm, 0);
     };
     if count == 0 {

@@ -1,6 +1,6 @@
 -- Row after row: each row of the buffer is its departure's labels, so a junction's column has the labels that its journeys are
 -- reckoned from, and the figures of the columns are the junctions' figures.
-use Prim.Native.Nat.{ℕ, zero, suc, ◌+◌, ◌-◌, ◌*◌, ◌≤◌, ◌<◌}
+use Prim.Native.Nat.{ℕ, zero, suc, ◌+◌, ◌*◌, ◌≤◌, ◌<◌}
 use mathlib.Core.Path.{◌≡◌, refl, sym, ap, ◌∙◌}
 use mathlib.Core.Bool.{Bool, true, false, cond}
 use mathlib.Core.List.{List, [], ◌∷◌, ◌++◌, map, append_assoc, append-nil}
@@ -8,9 +8,10 @@ use mathlib.Core.Logic.{◌⊎◌, inl, inr}
 use native.Mathlib.Nat.{mul-le-mul, le_refl}
 use native.Mathlib.Omega.{arith}
 use lib.Dec.{eqb}
-use lib.ListN.{length, get_or, take, drop, length-append, length-drop, get_or-append}
-use borrow.Rule.Slice.PartMut.{mid_of, put_mid, Post-is, same_len_mid}
-use lib.Seq.{take_at, drop_at, drop-drop, drop-length, drop-append-add, get_or-append-add, length-take-le, take-length, take-suc}
+use lib.ListN.{length, get_or, take, length-append, get_or-append}
+use borrow.Rule.Slice.PartMut.{put_mid}
+use lib.Seq.{take_at, drop-append-add, get_or-append-add, take_all, take-length, take-suc}
+use Rattle.std.proofs.lemmas.Slice.{take-put_mid}
 use Rattle.model.specs.Ticks.{last, never}
 use Rattle.model.specs.Network.{Network, net_of}
 use Rattle.model.specs.Labels.{labels_of}
@@ -126,57 +127,19 @@ columns_kept N source departures t j inside = record {
 
 -- ---- Writing them
 
--- The buffer starts with the rows of the first k departures.
-pub record RowsWritten (N : Network) (source : ℕ) (departures before : List ℕ) (k : ℕ) (labels : List ℕ) : Type 0 where
-  pub k_fits : k ≤ length departures
-  pub holds : labels ≡ rows_of N source (take k departures) ++ drop (k * N.junctions) before
-  pub same_length : length labels ≡ length before
+-- The buffer starts with the rows of the first k departures. With the next departure's row behind them it starts with those of one more.
+module _ (N : Network) (source : ℕ) (departures : List ℕ) (k : ℕ) (labels : List ℕ)
+    (rows : take (k * N.junctions) labels ≡ rows_of N source (take k departures)) (long : length labels ≡ length departures * N.junctions) where
+  pub rows_go_on : k < length departures → (size : ℕ) (row : List ℕ) → row ≡ labels_of (net_of N) source (get_or departures k 0) →
+      take ((k + 1) * N.junctions) (put_mid (k * N.junctions) size labels row) ≡ rows_of N source (take (k + 1) departures)
+  rows_go_on more size row is =
+      let row_long : length row ≡ N.junctions = ap length is ∙ labels_long N source (get_or departures k 0) in
+      let inside : k * N.junctions ≤ length labels = omega (arith, long, mul-le-mul more (le_refl N.junctions)) in
+      let next : k + 1 ≡ suc k = omega arith in
+      take-put_mid (k * N.junctions) size labels row ((k + 1) * N.junctions) (omega arith) inside
+      ∙ rw (rows, is, next, take-suc departures k 0 more) (sym (rows_snoc N source (take k departures) (get_or departures k 0)))
 
-pub rows_start : (N : Network) (source : ℕ) (departures before : List ℕ) → RowsWritten N source departures before 0 before
-unfolding rows_of
-rows_start N source departures before = let start : 0 * N.junctions ≡ 0 = omega arith in record { k_fits = omega arith; holds = rw start; same_length = refl }
-
-module _ {N : Network} {source : ℕ} {departures before : List ℕ} (long : length before ≡ length departures * N.junctions)
-    {k : ℕ} {labels : List ℕ} (w : RowsWritten N source departures before k labels) where
-  abbrev from : ℕ
-  from = k * N.junctions
-
-  done_long : length (rows_of N source (take k departures)) ≡ from
-  done_long = rows_long N source (take k departures) ∙ ap (λ n. n * N.junctions) (length-take-le k departures w.k_fits)
-
-  module _ (more : k < length departures) where
-    -- the row lies in the buffer
-    pub row_inside : from + N.junctions ≤ length labels
-    row_inside = omega (arith, long, w.same_length, mul-le-mul more (le_refl N.junctions))
-
-    pub part_long : N.junctions ≡ length (mid_of from (from + N.junctions - from) labels)
-    part_long =
-        let count : from + N.junctions - from ≡ N.junctions = omega arith in
-        sym (rw count (length-take-le N.junctions (drop from labels) (omega (arith, length-drop from labels, row_inside))))
-
-    pub rows_go_on : {labels' : List ℕ} → labels' ≡ labels_of (net_of N) source (get_or departures k 0) →
-        RowsWritten N source departures before (k + 1) (put_mid from (from + N.junctions - from) labels labels')
-    rows_go_on {labels'} is =
-        let rows = rows_of N source (take k departures) in
-        let next : k + 1 ≡ suc k = omega arith in
-        let start : take from labels ≡ rows = ap (take from) w.holds ∙ take_at rows (drop from before) from done_long in
-        let behind : drop from labels ≡ drop from before = ap (drop from) w.holds ∙ drop_at rows (drop from before) from done_long in
-        let rest : drop (from + N.junctions) labels ≡ drop (from + N.junctions) before =
-        sym (drop-drop N.junctions from labels) ∙ ap (drop N.junctions) behind ∙ drop-drop N.junctions from before in
-        let end : from + N.junctions ≡ suc k * N.junctions = omega arith in
-        let as_lent : length labels' ≡ length (mid_of from (from + N.junctions - from) labels) =
-        ap length is ∙ labels_long N source (get_or departures k 0) ∙ part_long in
-        let one_more : rows_of N source (take (suc k) departures) ≡ rows ++ labels' =
-        ap (rows_of N source) (take-suc departures k 0 more) ∙ rows_snoc N source (take k departures) (get_or departures k 0) ∙ ap (λ l. rows ++ l) (sym is) in
-        record {
-          k_fits = omega arith;
-          holds = rw (start, Post-is from (from + N.junctions) labels (omega arith), rest, next, end, one_more)
-              (sym (append_assoc rows labels' (drop (suc k * N.junctions) before)));
-          same_length = same_len_mid from (from + N.junctions - from) labels labels' as_lent ∙ w.same_length;
-        }
-
-  pub rows_end : length departures ≤ k → labels ≡ rows_of N source departures
-  rows_end all =
-      let same : k ≡ length departures = omega (arith, w.k_fits) in
-      let nothing : drop from before ≡ [] = rw (same, ← long) (drop-length before) in
-      w.holds ∙ rw (nothing, same, take-length departures, append-nil (rows_of N source departures))
+  pub rows_end : k ≡ length departures → labels ≡ rows_of N source departures
+  rows_end same =
+      let all : length labels ≤ k * N.junctions = rw same (omega (arith, long)) in
+      sym (take_all (k * N.junctions) labels all) ∙ rows ∙ rw (same, take-length departures)

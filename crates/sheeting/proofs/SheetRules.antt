@@ -1,40 +1,23 @@
 -- The sheet's rules: where a rule is broken the call is refused and the buffers are as they were; where none is, the plain conditions
 -- hold.
-use Prim.Native.Nat.{ℕ, ◌*◌, ◌≤◌, ◌<◌}
+use Prim.Native.Nat.{ℕ, ◌*◌, ◌<◌}
 use mathlib.Core.Path.{◌≡◌, sym, ap, ◌∙◌}
-use mathlib.Core.Bool.{true, false, not, ◌&&◌}
+use mathlib.Core.Bool.{not}
 use mathlib.Core.List.{List, ◌++◌}
-use native.Mathlib.Omega.{arith}
 use lib.Dec.{eqb, leb, ltb}
 use lib.ListN.{length, get_or}
-use borrow.Author.Tests.{not-false, eqb-true, eq-eqb, ltb-true, lt-ltb, le-ltb, leb-true, le-leb, lt-leb}
+use borrow.Author.Tests.{not-false, eqb-true, eq-eqb, ltb-true, lt-ltb, leb-true, le-leb}
 use Rattle.model.specs.Network.{Network, network_for}
 use Rattle.model.specs.Parties.{KnownAsker}
 use Rattle.model.specs.Ticks.{day}
 use Rattle.model.specs.Rules.{AllKept, Outcome, refused, replied, Rule, first_broken, every}
 use Rattle.model.proofs.Parties.{kept_for}
 use Rattle.checking.specs.ClosedNetwork.{closed_network_rules, closed_network_check_lem}
-use Rattle.checking.specs.NetworkCheck.{outcome_of}
-use Rattle.checking.specs.declared.network.NetworkCheck.{NetworkCheck}
-use Rattle.checking.specs.declared.network.NetworkCheck.TheVariants.{Accepted}
 use Rattle.checking.specs.Question.{Taken}
-use Rattle.checking.proofs.QuestionRules.{network_keeps, kept_closed, closed_kept, accepted_for}
-use Rattle.model.proofs.Rules.{kept_replies, replies_kept, refused_at_law, refused_before, kept_before, kept_append, append_kept, both_true, true_both, every_at, at_every}
-use Rattle.sheeting.specs.Figures.{figures_of}
-use Rattle.sheeting.specs.Rows.{rows_of}
-use Rattle.sheeting.specs.Sheet.{in_day, max_departures, shift_rules, sheet_buffer_rules, shift_check_lem, sheet_answer, sheet_labels_after, sheet_figures_after}
+use Rattle.checking.proofs.QuestionRules.{kept_closed, closed_kept, accepted_for}
+use Rattle.model.proofs.Rules.{kept_replies, replies_kept, refused_before, kept_before, kept_append, append_kept, both_true, true_both, every_at, at_every}
+use Rattle.sheeting.specs.Sheet.{in_day, max_departures, shift_rules, sheet_buffer_rules, shift_check_lem, sheet_answer}
 use Rattle.sheeting.specs.Sheet.{ShiftTaken, Sheetable, SheetRepliesWhenSheetable}
-
--- The list's count, as it is asked: above 0, and at most 96.
-module _ {n : ℕ} where
-  pub none_listed : n ≡ 0 → not (ltb 0 n && leb n max_departures) ≡ true
-  none_listed none = rw (le-ltb 0 n (omega arith))
-
-  pub too_many_listed : max_departures < n → not (ltb 0 n && leb n max_departures) ≡ true
-  too_many_listed many = rw (lt-ltb 0 n (omega arith), lt-leb n max_departures many)
-
-  pub count_kept : (n ≡ 0 → ⊥) → n ≤ max_departures → not (ltb 0 n && leb n max_departures) ≡ false
-  count_kept some few = rw (lt-ltb 0 n (omega arith), le-leb n max_departures few)
 
 -- Each departure of a list that is taken is.
 pub departure_taken : {N : Network} {source : ℕ} {departures : List ℕ} → ShiftTaken N source departures → {k : ℕ} → k < length departures →
@@ -65,10 +48,10 @@ module _ (N : Network) (asker source : ℕ) (departures : List ℕ) where
   network_refuses {number} e = sym (refused_before (closed_network_rules N asker) (shift_rules N source departures) tt tt number (sym e))
 
   -- Of a network that is accepted with its closures, the rules on the source and the list decide.
-  pub past_closed : {answer : NetworkCheck} → outcome_of answer ≡ closed_network_check_lem N asker → answer ≡ Accepted →
-      shift_check_lem N asker source departures ≡ first_broken (shift_rules N source departures) tt
-  unfolding shift_check_lem
-  past_closed is told = kept_before (closed_network_rules N asker) (shift_rules N source departures) tt (network_keeps N asker is told)
+  pub past_closed : replied tt ≡ closed_network_check_lem N asker → shift_check_lem N asker source departures ≡ first_broken (shift_rules N source departures) tt
+  unfolding closed_network_check_lem shift_check_lem
+  past_closed e =
+      kept_before (closed_network_rules N asker) (shift_rules N source departures) tt (replies_kept (closed_network_rules N asker) tt tt (sym e))
 
   kept_taken : AllKept check_rules → KnownAsker asker × ShiftTaken N source departures
   kept_taken kept =
@@ -98,8 +81,8 @@ module _ (N : Network) (asker source : ℕ) (departures : List ℕ) where
   unfolding shift_check_lem
   check_kept e = replies_kept check_rules tt tt e
 
-  pub check_taken : shift_check_lem N asker source departures ≡ replied tt → KnownAsker asker × ShiftTaken N source departures
-  check_taken e = kept_taken (check_kept e)
+  pub check_taken : replied tt ≡ shift_check_lem N asker source departures → KnownAsker asker × ShiftTaken N source departures
+  check_taken e = kept_taken (check_kept (sym e))
 
   -- ---- The buffers
 
@@ -107,34 +90,28 @@ module _ (N : Network) (asker source : ℕ) (departures : List ℕ) where
     abbrev answer : Outcome (Unit {0})
     answer = sheet_answer N asker source departures labels figures
 
-    -- An answer together with what the buffers hold afterwards.
-    abbrev Ends : Outcome (Unit {0}) → List ℕ → List ℕ → Type 0
-    Ends outcome labels' figures' = (outcome ≡ answer)
-        × ((labels' ≡ sheet_labels_after N asker source departures labels figures) × (figures' ≡ sheet_figures_after N asker source departures labels figures))
-
-    ends_refused : {number : ℕ} → refused number ≡ answer → Ends (refused number) labels figures
-    ends_refused e = (e, (rw (← e), rw (← e)))
-
     abbrev buffers : List Rule
     buffers = sheet_buffer_rules N departures labels figures
 
-    pub check_refuses : {number : ℕ} → refused number ≡ shift_check_lem N asker source departures → Ends (refused number) labels figures
+    pub check_refuses : {number : ℕ} → refused number ≡ shift_check_lem N asker source departures → refused number ≡ answer
     unfolding sheet_answer shift_check_lem
-    check_refuses {number} e = ends_refused (sym (refused_before check_rules buffers tt tt number (sym e)))
+    check_refuses {number} e = sym (refused_before check_rules buffers tt tt number (sym e))
 
     -- Where the list is taken, the rule on the buffers decides.
     buffers_decide : AllKept check_rules → answer ≡ first_broken buffers tt
     unfolding sheet_answer
     buffers_decide kept = kept_before check_rules buffers tt kept
 
-    pub buffers_refuse : shift_check_lem N asker source departures ≡ replied tt →
-        not (eqb (length labels) (length departures * N.junctions) && eqb (length figures) (4 * N.junctions)) ≡ true → Ends (refused 31) labels figures
-    buffers_refuse e broken = ends_refused (refused_at_law buffers tt 0 tt broken ∙ sym (buffers_decide (check_kept e)))
+    pub past_check : replied tt ≡ shift_check_lem N asker source departures → answer ≡ first_broken buffers tt
+    past_check e = buffers_decide (check_kept (sym e))
 
     sheetable_replies : KnownAsker asker × Sheetable N source departures labels figures → answer ≡ replied tt
     sheetable_replies (known, s) =
         let long = both_true (eq-eqb (length labels) (length departures * N.junctions) s.labels_long) (eq-eqb (length figures) (4 * N.junctions) s.figures_long) in
         buffers_decide (taken_kept known s.taken) ∙ kept_replies buffers tt (ap not long, tt)
+
+    pub replies : replied tt ≡ shift_check_lem N asker source departures → length labels ≡ length departures * N.junctions → length figures ≡ 4 * N.junctions → answer ≡ replied tt
+    replies e long long' = let (known, taken) = check_taken e in sheetable_replies (known, record { taken = taken; labels_long = long; figures_long = long' })
 
     pub answered : answer ≡ replied tt → KnownAsker asker × Sheetable N source departures labels figures
     unfolding sheet_answer
@@ -149,10 +126,6 @@ module _ (N : Network) (asker source : ℕ) (departures : List ℕ) where
             figures_long = eqb-true (length figures) (4 * N.junctions) long.1;
           },
         )
-
-    pub ends_written : KnownAsker asker × Sheetable N source departures labels figures → {labels' figures' : List ℕ} →
-        labels' ≡ rows_of (network_for N asker) source departures → figures' ≡ figures_of (network_for N asker) source departures → Ends (replied tt) labels' figures'
-    ends_written s l f = let e = sheetable_replies s in (sym e, (rw e l, rw e f))
 
 -- ---- The statement
 

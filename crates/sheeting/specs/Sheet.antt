@@ -7,20 +7,12 @@ use Rattle.model.specs.Closures.{ClosuresKept}
 use Rattle.model.specs.Network.{Network, network_for, Accepted, arcs, net_of}
 use Rattle.model.specs.Parties.{KnownAsker}
 use Rattle.model.specs.Walks.{Earliest}
-use Rattle.model.specs.Rules.{Outcome, refused, replied, Rule, ◌if◌, first_broken, after, every}
-use Rattle.refusals.specs.Refusals.{number_of}
+use Rattle.model.specs.Rules.{Outcome, replied, Rule, ◌if◌, first_broken, after, every}
 use Rattle.checking.specs.ClosedNetwork.{closed_network_rules}
 use Rattle.checking.specs.Question.{source_rules}
 use Rattle.labelling.specs.Labels.{labels_answer, labels_after}
 use Rattle.sheeting.specs.Figures.{figures_of, figure_in, FiguresMean}
 use Rattle.sheeting.specs.Rows.{rows_of, row}
-use Rattle.sheeting.specs.declared.sheet.Sheeted.{Sheeted}
-use Rattle.sheeting.specs.declared.sheet.Sheeted.TheVariants.{Written, Refused}
-
--- The answer's number.
-abbrev pub outcome_of : Sheeted → Outcome (Unit {0})
-outcome_of Written = replied tt
-outcome_of (Refused refusal) = refused (number_of refusal)
 
 -- ---- The rules
 

@@ -5,7 +5,7 @@ use Prim.Native.Nat.{ℕ, ◌<◌}
 use mathlib.Core.Path.{◌≡◌, refl, sym, ap, subst, ◌∙◌}
 use mathlib.Core.Bool.{true, false}
 use mathlib.Core.List.{List, [], ◌∷◌, flatten}
-use mathlib.Core.Option.{some}
+use Rattle.std.specs.Prelude.{Some}
 use native.Mathlib.Omega.{arith}
 use lib.Dec.{ltb}
 use lib.ListN.{get_or}
@@ -45,8 +45,8 @@ unfolding speed_at interval_of_lem passed arrival first_tick covered
 driven_on = refl
 
 -- An arc that comes to stand short of its end is driven on after midnight: its two intervals are pieces of constant speed.
-standing_row : Claims (Row.arc 2 (0 ∷ 100 ∷ []) (36 ∷ 0 ∷ []) 99 0 (some (864001, 0)))
-unfolding arc_arrival_lem first_broken every rise_from fences_keep_lem interval_of_lem passed
+standing_row : Claims (Row.arc 2 (0 ∷ 100 ∷ []) (36 ∷ 0 ∷ []) 99 0 (Some (864001, 0)))
+unfolding arc_arrival_lem first_broken rise_from fences_keep_lem interval_of_lem passed
 standing_row = ap (λ (t : ℕ). replied (tick_and_interval? (0 ∷ 100 ∷ []) t)) (no_hold_law v 72 99 ∙ moves ∙ stands ∙ driven_on)
   where
     v : ℕ → ℕ
@@ -95,7 +95,7 @@ sample_read : Progress
 sample_read = record { turn = 3; held = false; junctions = 3; intervals = 2; unnamed = 1; arcs = 3 }
 
 scanned : (first_fault sample_text ≡ accepted sample_read) × (first_fault sample_without_comment ≡ accepted sample_read)
-unfolding sample_read joined first_broken every rise_from fences_keep_lem up_to on_first pieces decimal_from number_keeps first_two mark_of name_keeps form_keeps values_keep
+unfolding sample_read joined first_broken rise_from fences_keep_lem up_to on_first pieces decimal_from number_keeps first_two mark_of name_keeps form_keeps values_keep
     line_read line_answer lines_from first_fault
 scanned = (refl, refl)
 
@@ -104,7 +104,7 @@ unfolding joined pieces up_to on_first decimal_from first_two mark_of marked tow
 same_town = refl
 
 sample_described : DescribesTown sample_text (town_of sample_text)
-unfolding joined every
+unfolding joined
 sample_described = describes sample_text sample_read refl scanned.0
 
 -- The network that the lines give.
@@ -116,7 +116,7 @@ unfolding joined pieces up_to on_first decimal_from first_two mark_of marked tow
 sample_network_law = refl
 
 sample_checked : network_check_lem sample_network ≡ replied tt
-unfolding network_check_lem first_broken every rise_from fences_keep_lem ends_keep_lem
+unfolding network_check_lem first_broken rise_from fences_keep_lem ends_keep_lem
 sample_checked = refl
 
 sample_labels : labels_of (net_of sample_network) 0 10 ≡ 10 ∷ 60 ∷ 100 ∷ []
@@ -129,7 +129,7 @@ town_row =
     (town_of sample_text, sample_described, subst (λ (N : Network). LabelsAre N 0 10 (10 ∷ 60 ∷ 100 ∷ [])) (sym sample_network_law) labelled)
 
 alike_row : Claims (Row.alike sample_text sample_without_comment)
-unfolding joined every
+unfolding joined
 alike_row = (
   town_of sample_text,
   sample_described,
@@ -144,7 +144,7 @@ unfolding pieces lines_from first_fault
 empty_row = refused_text [] 27 1 refl
 
 pub starred_rows : StarredRows
-unfolding arc_arrival_lem arrival_with_hold first_broken every rise_from fences_keep_lem speed_at interval_of_lem passed arrival first_tick covered
+unfolding arc_arrival_lem arrival_with_hold first_broken rise_from fences_keep_lem speed_at interval_of_lem passed arrival first_tick covered
 starred_rows =
     refl
     also refl

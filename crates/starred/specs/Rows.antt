@@ -1,8 +1,7 @@
 -- "Reckonings to keep. Starred ones form the proved set. A row is length; fences; speeds; departure; arrival." Document 02, order 2: "The
 -- starred row with length 2 and departure 99 now arrives at 864,001." By order 3 a row has the interval of the departure and that of the
 -- arrival. By order 5 "the rows to keep (..) have hold 0".
-use Rattle.std.specs.Prelude.{ℕ, ◌≡◌, List, [], ◌∷◌, ◌++◌, length}
-use Rattle.std.proofs.Math.Option.{Option, none, some}
+use Rattle.std.specs.Prelude.{ℕ, ◌≡◌, List, [], ◌∷◌, ◌++◌, length, Option, None, Some}
 use Rattle.model.specs.Network.{Network}
 use Rattle.model.specs.Parties.{KnownAsker}
 use Rattle.model.specs.Rules.{replied}
@@ -69,14 +68,14 @@ sample_text = joined (sample_lines ++ (comment ∷ []))
 
 abbrev pub starred : List Row
 starred =
-    arc 1 (0 ∷ []) (36 ∷ []) 0 0 (some (1, 0))
-    ∷ arc 1 (0 ∷ []) (35 ∷ []) 0 0 (some (2, 0))
-    ∷ arc 1 (0 ∷ []) (10 ∷ []) 0 0 (some (4, 0))
-    ∷ arc 1 (0 ∷ 100 ∷ []) (0 ∷ 36 ∷ []) 10 0 (some (101, 1))
-    ∷ arc 1 (0 ∷ 100 ∷ []) (36 ∷ 0 ∷ []) 99 0 (some (100, 1))
-    ∷ arc 2 (0 ∷ 100 ∷ []) (36 ∷ 0 ∷ []) 99 0 (some (864001, 0))
-    ∷ arc 1 (0 ∷ []) (1 ∷ []) 1727964 0 (some (1728000, 0))
-    ∷ arc 1 (0 ∷ []) (1 ∷ []) 1727965 0 none
+    arc 1 (0 ∷ []) (36 ∷ []) 0 0 (Some (1, 0))
+    ∷ arc 1 (0 ∷ []) (35 ∷ []) 0 0 (Some (2, 0))
+    ∷ arc 1 (0 ∷ []) (10 ∷ []) 0 0 (Some (4, 0))
+    ∷ arc 1 (0 ∷ 100 ∷ []) (0 ∷ 36 ∷ []) 10 0 (Some (101, 1))
+    ∷ arc 1 (0 ∷ 100 ∷ []) (36 ∷ 0 ∷ []) 99 0 (Some (100, 1))
+    ∷ arc 2 (0 ∷ 100 ∷ []) (36 ∷ 0 ∷ []) 99 0 (Some (864001, 0))
+    ∷ arc 1 (0 ∷ []) (1 ∷ []) 1727964 0 (Some (1728000, 0))
+    ∷ arc 1 (0 ∷ []) (1 ∷ []) 1727965 0 None
     ∷ town sample_text 0 10 (10 ∷ 60 ∷ 100 ∷ [])
     ∷ alike sample_text sample_without_comment
     ∷ refuses [] 27 1

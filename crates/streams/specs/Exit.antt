@@ -2,6 +2,13 @@
 use Rattle.std.specs.Prelude.{ℕ, ◌≤◌, ◌≡◌, Bool, cond, ◌⊎◌, ℤ, pos, negsuc}
 use Rattle.townfile.specs.FirstFault.{Reading}
 use Rattle.formatting.specs.Texts.{is_refusal}
+use Rattle.streams.specs.declared.answer.Status.{Status}
+use Rattle.streams.specs.declared.answer.Status.TheVariants.{Answered, Refused, Failed}
+
+abbrev pub exit_status : Status → ℤ
+exit_status Answered = pos 0
+exit_status Refused = pos 1
+exit_status Failed = pos 2
 
 abbrev pub ExitStatus : ℤ → Type 0
 ExitStatus (pos status) = status ≤ 2

@@ -6,4 +6,7 @@ pub mod answer;
 pub mod input;
 pub mod output;
 pub mod reason;
-pub mod transfer;
+pub mod run;
+
+// A signal may interrupt a call again and again, and a function must end: so many times one call is tried.
+pub(crate) const MAX_TRIES: u32 = 1_000_000;

@@ -3,11 +3,11 @@ ghost use Rattle.std.specs.Bool.{OnTrue};
 ghost use Rattle.std.specs.Io.{WritesAtMost};
 ghost use Rattle.std.specs.Io.KnownBytes.{Appends, WriteAppends};
 
+use crate::MAX_TRIES;
 use crate::reason::fail;
-use crate::transfer::MAX_TRIES;
 use std::io::{self, ErrorKind, Write};
 
-// One write, tried again where it is interrupted.
+// One write, tried again where it is interrupted: a million times, and not 2^64 times as by std's `write_all`.
 fn write_part<W: Write>(writer: &mut W, part: &[u8]) -> io::Result<usize>
     ensures within { WritesAtMost result part.now }
     ensures bytes { WriteAppends (W.contents writer.old) (W.contents writer.new) result part.now }
@@ -40,6 +40,7 @@ pub fn write_all<W: Write, E: Write>(
 ) -> bool
     ensures { OnTrue result (Appends (W.contents writer.old) (W.contents writer.new) text.now) }
 {
+    // A place by hand: a call moves any part, and says how much.
     let mut length = 0;
     while length < text.len() {
         let count = match write_part(writer, &text[length..]) {

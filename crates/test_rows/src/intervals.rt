@@ -1,19 +1,25 @@
 // Arc arrival with its interval, by document 02, order 3: the starred rows and departures around a fence and midnight, each given every
 // interval that its plan has and two that it has not.
 use crate::arcs::print_drive;
+use driving::road::Road;
 use std::io;
 
 fn print_one_speed_in(rt: &impl Print, speed: u8, departure: u32, interval: u32) -> io::Result<()> {
-    let fences = [0u32];
-    let speeds = [speed];
+    let road = Road {
+        fences: &[0],
+        speeds: &[speed],
+        metres: 1,
+        hold: 0,
+    };
     print!(rt; "speed {speed}, ")?;
-    print_drive(rt, 1, &fences, &speeds, departure, interval)
+    print_drive(rt, &road, departure, interval)
 }
 
 fn print_one_speed(rt: &impl Print, speed: u8, departure: u32) -> io::Result<()> {
-    print_one_speed_in(rt, speed, departure, 0)?;
-    print_one_speed_in(rt, speed, departure, 1)?;
-    print_one_speed_in(rt, speed, departure, 4_294_967_295)
+    for interval in [0, 1, u32::MAX] {
+        print_one_speed_in(rt, speed, departure, interval)?;
+    }
+    Ok(())
 }
 
 fn print_two_speeds_in(
@@ -24,10 +30,14 @@ fn print_two_speeds_in(
     departure: u32,
     interval: u32,
 ) -> io::Result<()> {
-    let fences = [0u32, 100];
-    let speeds = [first, second];
+    let road = Road {
+        fences: &[0, 100],
+        speeds: &[first, second],
+        metres,
+        hold: 0,
+    };
     print!(rt; "speed {first} and from 100 {second}, ")?;
-    print_drive(rt, metres, &fences, &speeds, departure, interval)
+    print_drive(rt, &road, departure, interval)
 }
 
 fn print_two_speeds(
@@ -37,25 +47,24 @@ fn print_two_speeds(
     second: u8,
     departure: u32,
 ) -> io::Result<()> {
-    print_two_speeds_in(rt, metres, first, second, departure, 0)?;
-    print_two_speeds_in(rt, metres, first, second, departure, 1)?;
-    print_two_speeds_in(rt, metres, first, second, departure, 2)?;
-    print_two_speeds_in(rt, metres, first, second, departure, 4_294_967_295)
+    for interval in [0, 1, 2, u32::MAX] {
+        print_two_speeds_in(rt, metres, first, second, departure, interval)?;
+    }
+    Ok(())
 }
 
 pub(crate) fn print_rows(rt: &impl Print) -> io::Result<()> {
-    print_one_speed(rt, 36, 0)?;
-    print_one_speed(rt, 35, 0)?;
-    print_one_speed(rt, 10, 0)?;
-    print_two_speeds(rt, 1, 0, 36, 10)?;
-    print_two_speeds(rt, 1, 36, 0, 99)?;
-    print_two_speeds(rt, 2, 36, 0, 99)?;
-    print_one_speed(rt, 1, 1_727_964)?;
-    print_one_speed(rt, 1, 1_727_965)?;
-    print_two_speeds(rt, 1, 36, 36, 100)?;
-    print_two_speeds(rt, 1, 36, 36, 863_999)?;
-    print_two_speeds(rt, 1, 36, 36, 864_000)?;
-    print_two_speeds(rt, 1, 36, 36, 1_727_999)?;
-    print_two_speeds(rt, 1, 36, 36, 1_728_000)?;
-    print_two_speeds(rt, 1, 36, 36, 1_728_001)
+    for (speed, departure) in [(36, 0), (35, 0), (10, 0)] {
+        print_one_speed(rt, speed, departure)?;
+    }
+    for (metres, first, second, departure) in [(1, 0, 36, 10), (1, 36, 0, 99), (2, 36, 0, 99)] {
+        print_two_speeds(rt, metres, first, second, departure)?;
+    }
+    for departure in [1_727_964, 1_727_965] {
+        print_one_speed(rt, 1, departure)?;
+    }
+    for departure in [100, 863_999, 864_000, 1_727_999, 1_728_000, 1_728_001] {
+        print_two_speeds(rt, 1, 36, 36, departure)?;
+    }
+    Ok(())
 }

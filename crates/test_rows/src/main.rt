@@ -2,14 +2,15 @@
 // a line with what the operation answers. By document 02, order 5, "the rows to keep (..) have hold 0".
 #![tactic(auto)]
 
-ghost use Rattle.std.specs.Prelude.{◌≡◌, length};
+ghost use Rattle.std.specs.Prelude.{◌≤◌};
 
-use labelling::labels::{Labelled, labels};
+use labelling::labels::labels;
+use model::network::Network;
 use model::party::BRIGADE;
 use model::tick::Tick;
 use refusals::refusal::Refusal;
 use routing::route::{Routed, route};
-use std::io;
+use std::{array, io};
 
 mod arcs;
 mod holds;
@@ -32,89 +33,49 @@ fn print_entry(rt: &impl Print, entry: u16) -> io::Result<()> {
     print!(rt; " {entry}")
 }
 
-fn print_route(rt: &impl Print, answer: Routed) -> io::Result<()> {
+fn print_route(rt: &impl Print, answer: Result<Routed, Refusal>) -> io::Result<()> {
     match answer {
-        Routed::Arcs { count, arrival: _ } => print!(rt; " arcs {count}"),
-        Routed::Refused(refusal) => print_refusal(rt, refusal),
+        Ok(routed) => print!(rt; " arcs {}", routed.count),
+        Err(refusal) => print_refusal(rt, refusal),
     }
 }
 
 fn print_each_label(rt: &impl Print, earliest: &[u32], predecessors: &[u16]) -> io::Result<()> {
-    let mut j = 0;
-    while j < earliest.len() {
-        if j < predecessors.len() {
-            print_label(rt, earliest[j], predecessors[j])?;
-        }
-        j += 1;
+    for (label, predecessor) in earliest.iter().zip(predecessors) {
+        print_label(rt, *label, *predecessor)?;
     }
     Ok(())
 }
 
-// The labels from the first junction, in buffers that the caller lends.
-fn print_labels(
+// The labels from the first junction, of a network with N of them.
+fn print_labels<const N: usize>(
     rt: &impl Print,
-    junctions: u32,
-    fences: &[u32],
-    tails: &[u16],
-    heads: &[u16],
-    lengths: &[u32],
-    holds: &[u16],
-    speeds: &[u8],
+    network: &Network,
     closures: &[[u32; 4]],
     asker: u32,
     departure: u32,
-    earliest: &mut [u32],
-    predecessors: &mut [u16],
-) -> io::Result<()> {
+) -> io::Result<()>
+    requires { N ≤ 200 }
+{
+    let mut earliest = [0u32; N];
+    let mut predecessors = [0u16; N];
     match labels(
-        junctions,
-        fences,
-        tails,
-        heads,
-        lengths,
-        holds,
-        speeds,
+        network,
         closures,
         asker,
         0,
         Tick { number: departure },
-        earliest,
-        predecessors,
+        &mut earliest,
+        &mut predecessors,
     ) {
-        Labelled::Written => print_each_label(rt, earliest, predecessors),
-        Labelled::Refused(refusal) => print_refusal(rt, refusal),
+        Ok(()) => print_each_label(rt, &earliest, &predecessors),
+        Err(refusal) => print_refusal(rt, refusal),
     }
 }
 
-// The labels of three junctions from the first, to the line's end.
-fn print_labels_of_3(
-    rt: &impl Print,
-    fences: &[u32],
-    tails: &[u16],
-    heads: &[u16],
-    lengths: &[u32],
-    holds: &[u16],
-    speeds: &[u8],
-    departure: u32,
-) -> io::Result<()> {
-    let mut earliest = [0u32; 3];
-    let mut predecessors = [0u16; 3];
-    let no_closures = [[0u32; 4]; 0];
-    print_labels(
-        rt,
-        3,
-        fences,
-        tails,
-        heads,
-        lengths,
-        holds,
-        speeds,
-        &no_closures,
-        BRIGADE,
-        departure,
-        &mut earliest,
-        &mut predecessors,
-    )?;
+// The labels of three junctions, to the line's end.
+fn print_labels_of_3(rt: &impl Print, network: &Network, departure: u32) -> io::Result<()> {
+    print_labels::<3>(rt, network, &[], BRIGADE, departure)?;
     println!(rt)
 }
 
@@ -125,34 +86,23 @@ fn print_sample(
     destination: u32,
     arcs: &mut [u16],
 ) -> io::Result<()> {
-    let fences = [0u32, 100];
-    let tails = [0u16, 0, 1];
-    let heads = [1u16, 2, 2];
-    let lengths = [50u32, 100, 50];
-    let holds = [0u16; 3];
-    let speeds = [36u8, 18, 40, 20, 36, 36];
+    let network = Network {
+        junctions: 3,
+        fences: &[0, 100],
+        tails: &[0, 0, 1],
+        heads: &[1, 2, 2],
+        lengths: &[50, 100, 50],
+        holds: &[0; 3],
+        speeds: &[36, 18, 40, 20, 36, 36],
+    };
     print!(rt;
         "sample town from {source} to {destination}, room {}:",
         arcs.len()
     )?;
-    let no_closures = [[0u32; 4]; 0];
+    let tick = Tick { number: 10 };
     print_route(
         rt,
-        route(
-            3,
-            &fences,
-            &tails,
-            &heads,
-            &lengths,
-            &holds,
-            &speeds,
-            &no_closures,
-            BRIGADE,
-            source,
-            Tick { number: 10 },
-            destination,
-            arcs,
-        ),
+        route(&network, &[], BRIGADE, source, tick, destination, arcs),
     )
 }
 
@@ -182,46 +132,21 @@ fn print_sample_with_just_room(rt: &impl Print) -> io::Result<()> {
 }
 
 // Arcs from each of 200 junctions to the next, numbered from the far end.
-fn number_from_the_end(tails: &mut [u16], heads: &mut [u16])
-    requires tails_len { length tails.old ≡ 199 }
-    requires heads_len { length heads.old ≡ 199 }
-{
-    let mut k = 0;
-    while k < 199 {
-        tails[198 - k] = k as u16;
-        heads[198 - k] = k as u16 + 1;
-        k += 1;
-    }
-}
-
 fn print_row_of_junctions(rt: &impl Print, arcs: &mut [u16]) -> io::Result<()> {
-    let fences = [0u32];
-    let mut tails = [0u16; 199];
-    let mut heads = [0u16; 199];
-    let lengths = [10u32; 199];
-    let holds = [0u16; 199];
-    let speeds = [36u8; 199];
-    number_from_the_end(&mut tails, &mut heads);
+    let tails: [u16; 199] = array::from_fn(|a| 198 - a as u16);
+    let heads: [u16; 199] = array::from_fn(|a| 199 - a as u16);
+    let network = Network {
+        junctions: 200,
+        fences: &[0],
+        tails: &tails,
+        heads: &heads,
+        lengths: &[10; 199],
+        holds: &[0; 199],
+        speeds: &[36; 199],
+    };
     print!(rt; "200 junctions in a row, room {}:", arcs.len())?;
-    let no_closures = [[0u32; 4]; 0];
-    print_route(
-        rt,
-        route(
-            200,
-            &fences,
-            &tails,
-            &heads,
-            &lengths,
-            &holds,
-            &speeds,
-            &no_closures,
-            BRIGADE,
-            0,
-            Tick { number: 0 },
-            199,
-            arcs,
-        ),
-    )
+    let tick = Tick { number: 0 };
+    print_route(rt, route(&network, &[], BRIGADE, 0, tick, 199, arcs))
 }
 
 fn print_row_without_room(rt: &impl Print) -> io::Result<()> {
@@ -243,20 +168,17 @@ fn print_row_with_just_room(rt: &impl Print) -> io::Result<()> {
 }
 
 fn print_all(rt: &impl Print) -> io::Result<()> {
-    arcs::print_row(rt, 100_000, 200)?;
-    arcs::print_row(rt, 100_001, 200)?;
-    arcs::print_row(rt, 100_000, 201)?;
-    table_1::print_table_1(rt, 9_000)?;
-    table_1::print_table_1(rt, 21_000)?;
-    table_1::print_table_1(rt, 24_000)?;
-    table_1::print_table_1(rt, 27_000)?;
-    table_1::print_table_1(rt, 863_999)?;
-    table_1::print_table_1(rt, 864_000)?;
+    for (metres, speed) in [(100_000, 200), (100_001, 200), (100_000, 201)] {
+        arcs::print_row(rt, metres, speed)?;
+    }
+    for departure in [9_000, 21_000, 24_000, 27_000, 863_999, 864_000] {
+        table_1::print_table_1(rt, departure)?;
+    }
     print_samples_without_room(rt)?;
     print_sample_with_just_room(rt)?;
-    print_sample_with_room(rt, 0, 2)?;
-    print_sample_with_room(rt, 2, 0)?;
-    print_sample_with_room(rt, 0, 3)?;
+    for (source, destination) in [(0, 2), (2, 0), (0, 3)] {
+        print_sample_with_room(rt, source, destination)?;
+    }
     print_row_without_room(rt)?;
     print_row_with_just_room(rt)?;
     midnight::print_rows(rt)?;

@@ -14,20 +14,19 @@ fn print_asked(
 }
 
 fn print_one(rt: &impl Print, asker: u32, row: [u32; 4]) -> io::Result<()> {
-    let rows = [row; 1];
-    print_asked(rt, 100, &rows, asker)
+    print_asked(rt, 100, &[row], asker)
 }
 
 fn print_two(rt: &impl Print, asker: u32, a: [u32; 4], b: [u32; 4]) -> io::Result<()> {
-    let rows = [a, b];
-    print_asked(rt, 100, &rows, asker)
+    print_asked(rt, 100, &[a, b], asker)
 }
 
 // The first street is closed to a party, or to both, from the departure on.
 fn print_stopped(rt: &impl Print, asker: u32) -> io::Result<()> {
-    print_one(rt, asker, [0, 100, 105, BOTH])?;
-    print_one(rt, asker, [0, 100, 105, BRIGADE])?;
-    print_one(rt, asker, [0, 100, 105, DEPOT])
+    for party in [BOTH, BRIGADE, DEPOT] {
+        print_one(rt, asker, [0, 100, 105, party])?;
+    }
+    Ok(())
 }
 
 // Two lists with the same records for both and for the brigade. The depot's differ in number, place and order, and not in what they close.
@@ -51,25 +50,25 @@ fn print_others(rt: &impl Print, asker: u32) -> io::Result<()> {
 
 // As many records as a question may bring, and one more, whoever asks.
 fn print_lists(rt: &impl Print, party: u32) -> io::Result<()> {
-    let most = [[0, 100, 105, party]; 64];
-    let too_many = [[0, 100, 105, party]; 65];
-    print_asked(rt, 100, &most, BRIGADE)?;
-    print_asked(rt, 100, &too_many, BRIGADE)
+    let row = [0, 100, 105, party];
+    print_asked(rt, 100, &[row; 64], BRIGADE)?;
+    print_asked(rt, 100, &[row; 65], BRIGADE)
 }
 
 // Who is not known is refused, with records and without, before the departure is looked at.
 fn print_unknown(rt: &impl Print, asker: u32) -> io::Result<()> {
-    let none = [[0u32; 4]; 0];
-    print_asked(rt, 100, &none, asker)?;
-    print_asked(rt, 864_000, &none, asker)?;
+    print_asked(rt, 100, &[], asker)?;
+    print_asked(rt, 864_000, &[], asker)?;
     print_one(rt, asker, [0, 100, 105, BOTH])
 }
 
 pub(crate) fn print_rows(rt: &impl Print) -> io::Result<()> {
-    print_stopped(rt, BRIGADE)?;
-    print_stopped(rt, DEPOT)?;
-    print_others(rt, BRIGADE)?;
-    print_others(rt, DEPOT)?;
+    for asker in [BRIGADE, DEPOT] {
+        print_stopped(rt, asker)?;
+    }
+    for asker in [BRIGADE, DEPOT] {
+        print_others(rt, asker)?;
+    }
     // A record of each on the same street: the asker waits for its own and for both.
     print_two(rt, BRIGADE, [0, 100, 103, DEPOT], [0, 102, 106, BRIGADE])?;
     print_two(rt, DEPOT, [0, 100, 103, DEPOT], [0, 102, 106, BRIGADE])?;
@@ -80,12 +79,12 @@ pub(crate) fn print_rows(rt: &impl Print) -> io::Result<()> {
     print_one(rt, BRIGADE, [0, 101, 101, DEPOT])?;
     // A party on both sides of its limit. 37 in a later record comes first.
     print_one(rt, BRIGADE, [0, 100, 105, 3])?;
-    print_one(rt, BRIGADE, [0, 100, 105, 4_294_967_295])?;
+    print_one(rt, BRIGADE, [0, 100, 105, u32::MAX])?;
     print_two(rt, BRIGADE, [0, 100, 105, 3], [2, 0, 1, BOTH])?;
     print_two(rt, BRIGADE, [0, 100, 105, BOTH], [1, 0, 1, 3])?;
     // 39, and 38 before it.
-    print_unknown(rt, 0)?;
-    print_unknown(rt, 3)?;
-    print_unknown(rt, 4_294_967_295)?;
+    for asker in [0, 3, u32::MAX] {
+        print_unknown(rt, asker)?;
+    }
     print_one(rt, 3, [0, 100, 105, 3])
 }

@@ -2,13 +2,16 @@
 // entry is 9 before a call.
 #![tactic(auto)]
 
-use loading::load::{Loaded, load};
+use loading::load::load;
 use naming::name::name;
+use std::fmt::Display;
 use std::fs::File;
 use std::{env, io};
 use streams::input::read_all;
 use streams::reason::fail;
-use streams::transfer::Transfer;
+use townfile::counts::Counts;
+use townfile::fault::Fault;
+use townfile::tables::Tables;
 
 mod parts;
 
@@ -17,73 +20,39 @@ const ROOM: usize = 65_538;
 
 // ---- Numbers, each after a space
 
-pub(crate) fn print_number(rt: &impl Print, number: u64) -> io::Result<()> {
-    print!(rt; " {number}")
-}
-
-fn wide_u32(entry: u32) -> u64 {
-    entry as u64
-}
-
-fn wide_u16(entry: u16) -> u64 {
-    entry as u64
-}
-
-fn wide_u8(entry: u8) -> u64 {
-    entry as u64
+// The entries from one place up to another, as far as the table has them.
+fn print_entries<T: Display>(
+    rt: &impl Print,
+    table: &[T],
+    from: usize,
+    to: usize,
+) -> io::Result<()> {
+    for entry in table.iter().take(to).skip(from) {
+        print!(rt; " {entry}")?;
+    }
+    Ok(())
 }
 
 // The entry at a place, if the table has it.
-fn print_u32(rt: &impl Print, table: &[u32], at: usize) -> io::Result<()> {
-    if at < table.len() {
-        print_number(rt, wide_u32(table[at]))?;
-    }
-    Ok(())
-}
-
-fn print_u16(rt: &impl Print, table: &[u16], at: usize) -> io::Result<()> {
-    if at < table.len() {
-        print_number(rt, wide_u16(table[at]))?;
-    }
-    Ok(())
-}
-
-fn print_u8(rt: &impl Print, table: &[u8], at: usize) -> io::Result<()> {
-    if at < table.len() {
-        print_number(rt, wide_u8(table[at]))?;
-    }
-    Ok(())
-}
-
-// The entries from one place up to another.
-pub(crate) fn print_u32s(rt: &impl Print, table: &[u32], from: usize, to: usize) -> io::Result<()> {
-    let mut k = from;
-    while k < to {
-        print_u32(rt, table, k)?;
-        k += 1;
-    }
-    Ok(())
-}
-
-fn print_u8s(rt: &impl Print, table: &[u8], from: usize, to: usize) -> io::Result<()> {
-    let mut k = from;
-    while k < to {
-        print_u8(rt, table, k)?;
-        k += 1;
+fn print_entry<T: Display>(rt: &impl Print, table: &[T], at: usize) -> io::Result<()> {
+    if let Some(entry) = table.get(at) {
+        print!(rt; " {entry}")?;
     }
     Ok(())
 }
 
 // ---- A stored town file, loaded into tables that are long enough
 
-pub(crate) fn print_answer(rt: &impl Print, answer: Loaded) -> io::Result<()> {
+pub(crate) fn print_answer(rt: &impl Print, answer: Result<Counts, Fault>) -> io::Result<()> {
     match answer {
-        Loaded::Counts {
-            junctions,
-            intervals,
-            arcs,
-        } => { println!(rt; ": junctions {junctions} intervals {intervals} arcs {arcs}") }
-        Loaded::Refused { refusal, line } => {
+        Ok(
+            Counts {
+                junctions,
+                intervals,
+                arcs,
+            },
+        ) => { println!(rt; ": junctions {junctions} intervals {intervals} arcs {arcs}") }
+        Err(Fault { refusal, line }) => {
             println!(rt; ": refused {} line {line}", refusal.number())
         }
     }
@@ -116,32 +85,20 @@ fn print_across(
     interval: usize,
     arc: usize,
     speed: usize,
-    fences: &[u32],
-    tails: &[u16],
-    heads: &[u16],
-    lengths: &[u32],
-    holds: &[u16],
-    speeds: &[u8],
+    tables: &Tables<'_>,
 ) -> io::Result<()> {
-    print_u32(rt, fences, interval)?;
-    print_ends(rt, arc, tails, heads, lengths, holds)?;
-    print_u8(rt, speeds, speed)?;
+    print_entry(rt, tables.fences, interval)?;
+    print_ends(rt, arc, tables)?;
+    print_entry(rt, tables.speeds, speed)?;
     println!(rt)
 }
 
 // An arc's tail, head, length and hold.
-fn print_ends(
-    rt: &impl Print,
-    arc: usize,
-    tails: &[u16],
-    heads: &[u16],
-    lengths: &[u32],
-    holds: &[u16],
-) -> io::Result<()> {
-    print_u16(rt, tails, arc)?;
-    print_u16(rt, heads, arc)?;
-    print_u32(rt, lengths, arc)?;
-    print_u16(rt, holds, arc)
+fn print_ends(rt: &impl Print, arc: usize, tables: &Tables<'_>) -> io::Result<()> {
+    print_entry(rt, tables.tails, arc)?;
+    print_entry(rt, tables.heads, arc)?;
+    print_entry(rt, tables.lengths, arc)?;
+    print_entry(rt, tables.holds, arc)
 }
 
 // The same, and its speeds, from one place up to another.
@@ -150,95 +107,56 @@ pub(crate) fn print_arc(
     arc: usize,
     from: usize,
     to: usize,
-    tails: &[u16],
-    heads: &[u16],
-    lengths: &[u32],
-    holds: &[u16],
-    speeds: &[u8],
+    tables: &Tables<'_>,
 ) -> io::Result<()> {
     print!(rt; "arc")?;
-    print_ends(rt, arc, tails, heads, lengths, holds)?;
-    print_u8s(rt, speeds, from, to)?;
+    print_ends(rt, arc, tables)?;
+    print_entries(rt, tables.speeds, from, to)?;
+    println!(rt)
+}
+
+// So many fences.
+pub(crate) fn print_fences(rt: &impl Print, count: usize, tables: &Tables<'_>) -> io::Result<()> {
+    print!(rt; "fences")?;
+    print_entries(rt, tables.fences, 0, count)?;
     println!(rt)
 }
 
 // The fences, the first two arcs, and of each table the entry behind those that were written.
-fn print_town(
-    rt: &impl Print,
-    intervals: u32,
-    arcs: u32,
-    fences: &[u32],
-    tails: &[u16],
-    heads: &[u16],
-    lengths: &[u32],
-    holds: &[u16],
-    speeds: &[u8],
-) -> io::Result<()> {
+fn print_town(rt: &impl Print, intervals: u32, arcs: u32, tables: &Tables<'_>) -> io::Result<()> {
     let width = intervals as usize;
     let count = arcs as usize;
-    print!(rt; "fences")?;
-    print_u32s(rt, fences, 0, width)?;
-    println!(rt)?;
+    print_fences(rt, width, tables)?;
     if 0 < count {
-        print_arc(rt, 0, 0, width, tails, heads, lengths, holds, speeds)?;
+        print_arc(rt, 0, 0, width, tables)?;
     }
     if 1 < count {
-        print_arc(
-            rt,
-            1,
-            width,
-            width + width,
-            tails,
-            heads,
-            lengths,
-            holds,
-            speeds,
-        )?;
+        print_arc(rt, 1, width, width + width, tables)?;
     }
-    let behind = speed_count(arcs, intervals);
     print!(rt; "then")?;
-    print_across(
-        rt, width, count, behind, fences, tails, heads, lengths, holds, speeds,
-    )
+    print_across(rt, width, count, speed_count(arcs, intervals), tables)
 }
 
 // Where a text is refused, a changed table shows in its first entry.
 fn print_block(rt: &impl Print, title: &[u8], text: &[u8]) -> io::Result<()> {
-    let mut fences = [9u32; 97];
-    let mut tails = [9u16; 641];
-    let mut heads = [9u16; 641];
-    let mut lengths = [9u32; 641];
-    let mut holds = [9u16; 641];
-    let mut speeds = [9u8; 61_441];
     rt.write_all(title)?;
-    let answer = load(
-        text,
-        &mut fences,
-        &mut tails,
-        &mut heads,
-        &mut lengths,
-        &mut holds,
-        &mut speeds,
-    );
+    let mut tables = Tables {
+        fences: &mut [9; 97],
+        tails: &mut [9; 641],
+        heads: &mut [9; 641],
+        lengths: &mut [9; 641],
+        holds: &mut [9; 641],
+        speeds: &mut [9; 61_441],
+    };
+    let answer = load(text, &mut tables);
     print_answer(rt, answer)?;
     match answer {
-        Loaded::Counts {
-            junctions: _,
-            intervals,
-            arcs,
-        } => {
-            print_town(
-                rt, intervals, arcs, &fences, &tails, &heads, &lengths, &holds, &speeds,
-            )?;
+        Ok(counts) => {
+            print_town(rt, counts.intervals, counts.arcs, &tables)?;
         }
-        Loaded::Refused {
-            refusal: _,
-            line: _,
-        } => {
+        Err(_) => {
             print!(rt; "first entries")?;
-            print_across(
-                rt, 0, 0, 0, &fences, &tails, &heads, &lengths, &holds, &speeds,
-            )?;
+            print_across(rt, 0, 0, 0, &tables)?;
         }
     }
     print_names(rt, text)
@@ -254,7 +172,7 @@ fn print_file(rt: &HostRuntime, path: &str) -> io::Result<()> {
         }
     };
     let mut buffer = [0u8; ROOM];
-    let Transfer::Bytes(length) = read_all(&mut file, &mut rt.stderr(), title, &mut buffer) else {
+    let Some(length) = read_all(&mut file, &mut rt.stderr(), title, &mut buffer) else {
         return Ok(());
     };
     print_block(rt, title, &buffer[..length])

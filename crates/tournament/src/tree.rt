@@ -35,13 +35,6 @@ pub fn least_key(tree: &[u32; NODES]) -> u32
     tree[ROOT]
 }
 
-// The winner of a match.
-fn lesser(a: u32, b: u32) -> u32
-    ensures { result ≡ min a b }
-{
-    if a < b { a } else { b }
-}
-
 // The node that a node meets. The numbers of the two differ in their lowest bit, and add up to 4 k + 1 where k is that of the node above.
 fn opponent(i: usize) -> usize
     ensures { result ≡ 4 * (i / 2) + 1 - i }
@@ -55,7 +48,7 @@ fn play(tree: &mut [u32; NODES], node: usize, winner: u32) -> u32
     ensures won { result ≡ min (get_or tree.old (4 * (node / 2) + 1 - node) 0) winner }
     ensures tree { tree.new ≡ set tree.old (node / 2) result }
 {
-    let won = lesser(tree[opponent(node)], winner);
+    let won = tree[opponent(node)].min(winner);
     tree[node / 2] = won;
     won
 }

@@ -4,12 +4,9 @@ use Rattle.std.specs.Prelude.{ℕ, List, length}
 use Rattle.model.specs.Labels.{labels_of, predecessors_of}
 use Rattle.model.specs.Network.{Network, net_of}
 use Rattle.model.specs.Rules.{first_broken, written}
-use Rattle.refusals.specs.Refusals.{number_of}
 use Rattle.townfile.specs.FirstFault.{Reading, refused_at, accepted}
 use Rattle.checking.specs.Question.{start_rules}
 use Rattle.question_line.specs.Answers.{at_line_zero, in_town}
-use Rattle.town_labels.specs.declared.town.TownLabelled.{TownLabelled}
-use Rattle.town_labels.specs.declared.town.TownLabelled.TheVariants.{Junctions, Refused}
 
 -- Both tables, a label and a predecessor for each junction.
 pub record Labelling : Type 0 where
@@ -27,10 +24,6 @@ abbrev pub town_labelling : List ℕ → ℕ → ℕ → Reading Labelling
 town_labelling text source departure = in_town (λ N. network_labelling N source departure) text
 
 -- ---- As the code answers it
-
-abbrev pub reading_of : TownLabelled → Reading ℕ
-reading_of (Junctions count) = accepted count
-reading_of (Refused refusal line) = refused_at (number_of refusal) line
 
 -- There is a label for each junction.
 abbrev pub junction_count : Reading Labelling → Reading ℕ

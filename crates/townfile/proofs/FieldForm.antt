@@ -68,7 +68,6 @@ module _ (separator : ℕ) where
 
 fields_at_space : (bytes : List ℕ) → (every number_keeps (fields_of bytes) ≡ true → Fields (drop (length (up_to space bytes)) bytes) (numbers_of bytes)) →
     every number_keeps (pieces space bytes) ≡ true → Fields (space ∷ bytes) (map decimal (pieces space bytes))
-unfolding every
 fields_at_space bytes later e =
     let parts = true_both (number_keeps (up_to space bytes)) (every number_keeps (fields_of bytes)) (rw (pieces_first space bytes) at e) in
     rw (pieces_first space bytes) (rw (up_to_whole space bytes) at (field (keeps_number (up_to space bytes) parts.0) (later parts.1)))
@@ -92,7 +91,7 @@ pub record AsPieces (bytes numbers : List ℕ) : Type 0 where
   pub their_values : numbers_of bytes ≡ numbers
 
 pub fields_pieces : {bytes numbers : List ℕ} → Fields bytes numbers → AsPieces bytes numbers
-unfolding up_to pieces every
+unfolding up_to pieces
 fields_pieces no_fields = record { none_before = refl; all_numbers = refl; their_values = refl }
 fields_pieces (field {bytes} {rest} number fields) =
     let later = fields_pieces fields in

@@ -15,7 +15,8 @@ use Rattle.model.specs.Rules.{written}
 use Rattle.townfile.specs.FirstFault.{accepted}
 use Rattle.townfile.specs.Grammar.{Bytes, Arc, Town, Each, Line, TN, FN, JN, AR, CM, Reads, arc_line, ReadsAll, no_lines, reads_line, Describes, network_of}
 use Rattle.townfile.specs.Tables.{town_of, OldTownsAreNotHeld}
-use Rattle.townfile.specs.Load.{Counts, counts, Tables, LongEnough, roomy_tables, network_at, counts_of_town, load_answer, holding, tables_after}
+use Rattle.townfile.specs.Load.{counts, Tables, LongEnough, Stands, roomy_tables, counts_of_town, load_answer, holding, tables_after}
+use Rattle.townfile.specs.declared.counts.Counts.{Counts}
 use Rattle.townfile.proofs.Described.{described_town}
 use Rattle.townfile.proofs.Gathered.{town_said, town_said_law}
 use Rattle.townfile.proofs.Load.{long_fits, described_answer, load_accepts_when_described}
@@ -27,11 +28,6 @@ written_long entries table e = omega (arith, length-append entries (drop (length
 
 written_start : (entries table : List ℕ) {n : ℕ} → n ≡ length entries → take n (written entries table) ≡ entries
 written_start entries table e = rw e (take-append_seam entries (drop (length entries) table))
-
--- A network stands at the tables' start.
-pub record Stands (N : Network) (reply : Counts) (held : Tables) : Type 0 where
-  pub long : LongEnough reply held
-  pub is_network : network_at reply held ≡ N
 
 -- a network without closures, as no file has any
 holding_stands : (N : Network) → N.closures ≡ [] → Accepted N → (lent : Tables) → Stands N (counts N.junctions (intervals N) (arcs N)) (holding N lent)

@@ -42,7 +42,6 @@ pub record PartsKept (T : Town) : Type 0 where
 -- ---- Arcs
 
 every_append : {A : Type 0} (test : A → Bool) (xs ys : List A) → every test (xs ++ ys) ≡ (every test xs && every test ys)
-unfolding every
 every_append test [] ys = refl
 every_append test (x ∷ xs) ys = rw (every_append test xs ys) (sym (and_assoc (test x) (every test xs) (every test ys)))
 
@@ -50,7 +49,7 @@ module _ (junctions intervals : ℕ) where
   arcs_parted : (arcs : List Arc) → ends_keep_lem junctions (map (λ a. a.tail) arcs) (map (λ a. a.head) arcs) ≡ true → every length_keeps_lem (map (λ a. a.metres) arcs) ≡ true →
       every speed_keeps (flatten (map (λ a. a.speeds) arcs)) ≡ true → every hold_keeps (map (λ a. a.hold) arcs) ≡ true → Each (λ a. length a.speeds ≡ intervals) arcs →
       Each (ArcTested junctions intervals) arcs
-  unfolding ends_keep_lem every flatten Each
+  unfolding ends_keep_lem flatten Each
   arcs_parted [] ends lengths speeds holds counts = tt
   arcs_parted (arc ∷ arcs) ends lengths speeds holds counts =
       let end = true_both (ends_differ junctions arc.tail arc.head) (ends_keep_lem junctions (map (λ a. a.tail) arcs) (map (λ a. a.head) arcs)) ends in
@@ -72,7 +71,7 @@ module _ (junctions intervals : ℕ) where
     count : length (flatten (map (λ a. a.speeds) arcs)) ≡ length arcs * intervals
 
   arcs_joined : (arcs : List Arc) → Each (ArcTested junctions intervals) arcs → ArcsKept arcs
-  unfolding ends_keep_lem every flatten Each
+  unfolding ends_keep_lem flatten Each
   arcs_joined [] kept = record { ends = refl; lengths = refl; holds = refl; speeds = refl; counts = tt; count = omega arith }
   arcs_joined (arc ∷ arcs) kept =
       let rest = arcs_joined arcs kept.1 in

@@ -225,7 +225,7 @@ reads_begins (town_line fields) = refl
 reads_begins (held_town_line fields) = refl
 
 pub reads_form : (p : Progress) {held : Bool} {line : List ℕ} {says : Line} → Reads held line says → CountsMatch p held says → form_keeps p line ≡ true
-unfolding form_keeps mark_of first_two up_to every
+unfolding form_keeps mark_of first_two up_to
 reads_form p (town_line {bytes} fields) counts = fields_keep 84 78 bytes refl refl fields 2 refl
 reads_form p (held_town_line {bytes} fields) counts = fields_keep 84 87 bytes refl refl fields 2 refl
 reads_form p (fences_line {bytes = bytes} fields) counts = fields_keep 70 78 bytes refl refl fields p.intervals counts

@@ -10,7 +10,8 @@ use borrow.Author.Tests.{ltb-false, le-ltb}
 use Rattle.model.specs.Network.{arcs, intervals}
 use Rattle.townfile.specs.Grammar.{Bytes, Town, network_of, lines_in_order, Describes}
 use Rattle.townfile.specs.FirstFault.{Reading, refused_at, accepted, start, first_fault}
-use Rattle.townfile.specs.Load.{Counts, Tables, counts_of, is_too_short, into_tables, load_answer, holding, tables_after, LongEnough, counts_of_town}
+use Rattle.townfile.specs.Load.{Tables, counts_of, is_too_short, into_tables, load_answer, holding, tables_after, LongEnough, counts_of_town}
+use Rattle.townfile.specs.declared.counts.Counts.{Counts}
 use Rattle.townfile.specs.Load.{LoadAcceptsWhenDescribed, TooShortWhenDescribed}
 use Rattle.townfile.specs.declared.progress.Progress.{Progress}
 use Rattle.townfile.proofs.Order.{after_all}

@@ -1,19 +1,25 @@
--- The tables that are lent to Load or for what was loaded, by which contracts name them: as a function finds them, as they were lent,
--- and as they are left.
-use Rattle.std.specs.Prelude.{ℕ, List}
-use Rattle.std.specs.Borrow.{Bor, MutBor}
+-- The tables that are lent to Load, by which contracts name them: as the struct that holds them, or one by one where C
+-- lends them.
+use Rattle.std.specs.Prelude.{ℕ, ◌≡◌, List}
+use Rattle.std.specs.Borrow.{MutBor}
 use denote.Triple.Both.{Both}
 use Rattle.townfile.specs.Load.{Tables, tables}
+use Rattle.townfile.specs.declared.tables.Tables.{Tables as LentTables}
 
-abbrev pub tables_in : Bor (List ℕ) → Bor (List ℕ) → Bor (List ℕ) → Bor (List ℕ) → Bor (List ℕ) → Bor (List ℕ) → Tables
-tables_in fences tails heads lengths holds speeds = tables fences.now tails.now heads.now lengths.now holds.now speeds.now
+abbrev pub lent_tables : LentTables → Tables
+lent_tables lent = tables lent.fences.now lent.tails.now lent.heads.now lent.lengths.now lent.holds.now lent.speeds.now
 
--- For what a function ensures, where a table's name stands for the table at entry and at exit.
-abbrev pub lent_tables : {A B C D E F : Type 0} → Both (Bor (List ℕ)) A → Both (Bor (List ℕ)) B → Both (Bor (List ℕ)) C →
-    Both (Bor (List ℕ)) D → Both (Bor (List ℕ)) E → Both (Bor (List ℕ)) F → Tables
-lent_tables fences tails heads lengths holds speeds = tables_in fences.entry tails.entry heads.entry lengths.entry holds.entry speeds.entry
+-- Each table is the one that was lent, so that what stands in the struct in the end stands behind the caller's reference.
+pub record SameTables (before after : LentTables) : Type 0 where
+  pub fences : after.fences.ghost_name ≡ before.fences.ghost_name
+  pub tails : after.tails.ghost_name ≡ before.tails.ghost_name
+  pub heads : after.heads.ghost_name ≡ before.heads.ghost_name
+  pub lengths : after.lengths.ghost_name ≡ before.lengths.ghost_name
+  pub holds : after.holds.ghost_name ≡ before.holds.ghost_name
+  pub speeds : after.speeds.ghost_name ≡ before.speeds.ghost_name
 
--- The same where a function writes the tables.
+-- ---- One by one: for what a function ensures, where a table's name stands for the table at entry and at exit
+
 abbrev pub tables_to_fill : {A B C D E F : Type 0} → Both (MutBor (List ℕ)) A → Both (MutBor (List ℕ)) B → Both (MutBor (List ℕ)) C →
     Both (MutBor (List ℕ)) D → Both (MutBor (List ℕ)) E → Both (MutBor (List ℕ)) F → Tables
 tables_to_fill fences tails heads lengths holds speeds =

@@ -8,12 +8,8 @@ use Rattle.model.specs.Rules.{written}
 use Rattle.townfile.specs.Grammar.{Bytes, Town, Describes, network_of}
 use Rattle.townfile.specs.FirstFault.{Reading, refused_at, accepted, first_fault}
 use Rattle.townfile.specs.Tables.{town_of}
+use Rattle.townfile.specs.declared.counts.Counts.{Counts}
 use Rattle.townfile.specs.declared.progress.Progress.{Progress}
-
-pub record Counts : Type 0 where
-  pub junctions : ℕ
-  pub intervals : ℕ
-  pub arcs : ℕ
 
 abbrev pub counts : ℕ → ℕ → ℕ → Counts
 counts junctions intervals arcs = record { junctions = junctions; intervals = intervals; arcs = arcs }
@@ -65,6 +61,11 @@ network_at asked held = record {
   speeds = take (asked.arcs * asked.intervals) held.speeds;
   closures = [];
 }
+
+-- A network stands at the tables' start.
+pub record Stands (N : Network) (reply : Counts) (held : Tables) : Type 0 where
+  pub long : LongEnough reply held
+  pub is_network : network_at reply held ≡ N
 
 -- Lengths of tables that are too small for their own entries.
 abbrev pub lacks_room_lem : ℕ → ℕ → ℕ → ℕ → ℕ → ℕ → ℕ → ℕ → Bool

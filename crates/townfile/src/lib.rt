@@ -2,7 +2,10 @@
 // code that reads a file is in the crates `fields`, `number_rows`, `reading`, `scanning`, `loading` and `naming`.
 #![tactic(auto)]
 
+pub mod counts;
+pub mod fault;
 pub mod limit;
 pub mod mark;
 pub mod part;
 pub mod progress;
+pub mod tables;

@@ -12,7 +12,7 @@ pub const ARC: u16 = 0x4152;
 
 pub const COMMENT: u16 = 0x434D;
 
-// What a line shorter than a mark has.
+// What a line shorter than a mark has: a number and no option, since document 01 has the mark matched as a 16-bit number.
 pub const NONE: u16 = 0;
 
 pub const LINE_FEED: u8 = 10;

@@ -17,7 +17,8 @@ pub struct Progress {
 }
 
 impl Progress {
-    // The turns in their order: TN is due.
+    // The turns in their order, as numbers: the definition of the first fault compares and counts them (`in_turn`, `due_after`), so an enum would need a map to them at each.
+    // TN is due.
     pub const TOWN_DUE: u32 = 0;
 
     // FN is due.

@@ -1,15 +1,11 @@
--- What a call of one rule or of two answers and leaves, and what the newest version that the code finds says of the store.
+-- What a call of one rule or of two answers.
 use Prim.Native.Nat.{ℕ}
 use mathlib.Core.Path.{◌≡◌, refl, sym, ap, ◌∙◌}
 use mathlib.Core.Bool.{Bool, true, false, not, cond, true≢false}
 use mathlib.Core.Logic.{◌↔◌, ◌⊎◌, inl, inr}
-use mathlib.Core.List.{List, [], ◌∷◌}
+use mathlib.Core.List.{[], ◌∷◌}
 use native.Mathlib.Omega.{arith}
-use lib.Dec.{ltb}
-use borrow.Author.Tests.{ltb-true}
-use Rattle.refusals.specs.Rules.{Outcome, refused, replied, ◌if◌, first_broken, after}
-use Rattle.refusals.proofs.Rules.{true_both}
-use Rattle.week.specs.Store.{Store, newest_of_lem, slot_keeps, below, slots, store_keeps}
+use Rattle.refusals.specs.Rules.{Outcome, refused, replied, ◌if◌, first_broken}
 use Rattle.week.proofs.ListTest.{refuted}
 
 -- ---- One rule, and two
@@ -46,36 +42,6 @@ module _ (a b : ℕ) (reply : ℕ) where
   unfolding first_broken
   second_decides p true kept = rw kept refl
   second_decides p false kept = rw kept refl
-
--- ---- What is left of a store
-
--- A call answers so, and leaves these tables.
-abbrev Leaves : {A : Type 0} → A → A → List ℕ → List ℕ → Store → Type 0
-Leaves answer answer' versions lists S = (answer ≡ answer') × ((versions ≡ S.versions) × (lists ≡ S.lists))
-
-pub untouched : (number : ℕ) (answer : Outcome ℕ) (written S : Store) → refused number ≡ answer → Leaves (refused number) answer S.versions S.lists (after answer written S)
-untouched number answer written S is = rw (sym is) (refl, (refl, refl))
-
-pub changed : (version : ℕ) (answer : Outcome ℕ) (written S : Store) {versions lists : List ℕ} → replied version ≡ answer →
-    versions ≡ written.versions → lists ≡ written.lists → Leaves (replied version) answer versions lists (after answer written S)
-changed version answer written S is versions lists = rw (sym is) (refl, (versions, lists))
-
--- ---- The newest version
-
-module _ (S : Store) (newest : ℕ) (is : newest ≡ cond (store_keeps S) (newest_of_lem S) 0) where
-  pub found_none : newest ≡ 0 → store_keeps S ≡ false
-  found_none none = go (store_keeps S) refl is
-    where
-      go : (keeps : Bool) → store_keeps S ≡ keeps → newest ≡ cond keeps (newest_of_lem S) 0 → keeps ≡ false
-      go true e found = let some = ltb-true 0 (newest_of_lem S) (true_both (ltb 0 (newest_of_lem S)) (below slots (slot_keeps S)) e).0 in absurd (omega (arith, none, found, some))
-      go false e found = refl
-
-  pub found_some : (newest ≡ 0 → ⊥) → (store_keeps S ≡ true) × (newest ≡ newest_of_lem S)
-  found_some some = go (store_keeps S) is
-    where
-      go : (keeps : Bool) → newest ≡ cond keeps (newest_of_lem S) 0 → (keeps ≡ true) × (newest ≡ newest_of_lem S)
-      go true e = (refl, e)
-      go false e = absurd (some e)
 
 -- ---- What two rules say in plain words
 

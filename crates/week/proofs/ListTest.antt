@@ -1,15 +1,15 @@
 -- What the code finds of a list, mask by mask, and the test: of a given list its ones are counted, and the masks of a stored one are added up.
 use Prim.Native.Nat.{ℕ, ◌≤◌, ◌<◌}
 use mathlib.Core.Path.{◌≡◌, refl, sym, ◌∙◌}
-use mathlib.Core.Bool.{Bool, true, false, ◌&&◌, and-false}
+use mathlib.Core.Bool.{Bool, true, false, ◌&&◌}
 use mathlib.Core.List.{List}
 use mathlib.Core.Logic.{by_cases}
 use native.Mathlib.Decide.{ℕ_discrete}
 use native.Mathlib.Omega.{arith}
-use lib.Dec.{leb, ltb, eqb}
+use lib.Dec.{ltb, eqb}
 use lib.Count.{ones, ones-le}
 use lib.ListN.{length, get_or}
-use borrow.Author.Tests.{lt-ltb, le-leb, lt-leb, eq-eqb, ne_eqb}
+use borrow.Author.Tests.{lt-ltb, le-leb, eq-eqb, ne_eqb}
 use Rattle.refusals.specs.Rules.{every}
 use Rattle.refusals.proofs.Rules.{both_true, every_at, at_every}
 use Rattle.week.specs.WeekList.{weekdays, all_days, WeekList, mask_keeps, together, total, list_keeps_lem}
@@ -22,12 +22,6 @@ refuted false not = refl
 
 -- ---- A mask
 
-pub zero_breaks : (mask : ℕ) → mask ≡ 0 → mask_keeps mask ≡ false
-zero_breaks mask is = rw is refl
-
-pub above_breaks : (mask : ℕ) → all_days < mask → mask_keeps mask ≡ false
-above_breaks mask above = rw (lt-leb mask all_days above) (and-false (ltb 0 mask))
-
 pub mask_keeps_law : (mask : ℕ) → (mask ≡ 0 → ⊥) → mask ≤ all_days → mask_keeps mask ≡ true
 mask_keeps_law mask not_0 fits = both_true (lt-ltb 0 mask (omega (arith, not_0))) (le-leb mask all_days fits)
 
@@ -37,15 +31,6 @@ few_ones mask fits = ones-le weekdays mask (omega arith)
 -- ---- A given list
 
 module _ (masks : List ℕ) where
-  pub none_breaks : length masks ≡ 0 → list_keeps_lem masks ≡ false
-  none_breaks none = rw none refl
-
-  pub more_break : weekdays < length masks → list_keeps_lem masks ≡ false
-  more_break more = rw (lt-leb (length masks) weekdays more, and-false (ltb 0 (length masks))) refl
-
-  pub one_breaks_all : every mask_keeps masks ≡ false → list_keeps_lem masks ≡ false
-  one_breaks_all breaks = rw (breaks, and-false (ltb 0 (length masks) && leb (length masks) weekdays)) refl
-
   pub two_tests_left : {days sum : ℕ} → 1 ≤ length masks → length masks ≤ weekdays →
       (every mask_keeps masks ≡ true) × (together 0 masks ≡ days) × (total ones 0 masks ≡ sum) → list_keeps_lem masks ≡ (eqb days all_days && eqb sum weekdays)
   two_tests_left some few (keep, days, sum) = rw (lt-ltb 0 (length masks) some, le-leb (length masks) weekdays few, keep, days, sum) refl

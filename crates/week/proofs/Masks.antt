@@ -1,7 +1,7 @@
 -- A given list looked at mask by mask: what the masks from a place on come to after those before it is what the whole list comes to.
 use Prim.Native.Nat.{ℕ, ◌+◌, ◌*◌, ◌≤◌, ◌<◌}
 use mathlib.Core.Path.{◌≡◌, refl, sym, ◌∙◌}
-use mathlib.Core.Bool.{true, false}
+use mathlib.Core.Bool.{true}
 use mathlib.Core.List.{List}
 use native.Mathlib.Numerals.{add-one}
 use native.Mathlib.Omega.{arith}
@@ -19,17 +19,10 @@ module _ (masks : List ℕ) where
     pub sum_is : total ones sum (drop place masks) ≡ total ones 0 masks
     pub few : sum ≤ weekdays * place
 
-  pub none_yet : SoFar 0 0 0
-  none_yet = record { keep = refl; days_are = refl; sum_is = refl; few = omega arith }
-
   module _ {days sum place : ℕ} (so_far : SoFar days sum place) where
-    pub one_breaks : place < length masks → mask_keeps (get_or masks place 0) ≡ false → every mask_keeps masks ≡ false
-    unfolding every
-    one_breaks inside breaks = sym so_far.keep ∙ rw (drop-cons masks place 0 inside, breaks) refl
-
     pub one_more : place < length masks → mask_keeps (get_or masks place 0) ≡ true → ones (get_or masks place 0) ≤ weekdays →
         SoFar (bit_or days (get_or masks place 0)) (sum + ones (get_or masks place 0)) (place + 1)
-    unfolding every together total
+    unfolding together total
     one_more inside keeps fits =
         let split = drop-cons masks place 0 inside in
         record {
@@ -40,7 +33,7 @@ module _ (masks : List ℕ) where
         }
 
     pub all_looked_at : length masks ≤ place → (every mask_keeps masks ≡ true) × (together 0 masks ≡ days) × (total ones 0 masks ≡ sum)
-    unfolding every together total
+    unfolding together total
     all_looked_at end =
         let nothing = drop_of_length-le masks end in
         (sym so_far.keep ∙ rw nothing refl, sym so_far.days_are ∙ rw nothing refl, sym so_far.sum_is ∙ rw nothing refl)

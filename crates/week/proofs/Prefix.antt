@@ -1,6 +1,6 @@
 -- Masks looked at from the front: up to the first 0 they are the list, if no mask stands behind it; and if one does, the list has a mask of 0, and
 -- all seven make more than those before the 0, which make 127 if they have all days.
-use Prim.Native.Nat.{ℕ, zero, suc, ◌+◌, ◌-◌, ◌*◌, ◌≤◌, ◌<◌}
+use Prim.Native.Nat.{ℕ, zero, suc, ◌+◌, ◌-◌, ◌≤◌, ◌<◌}
 use mathlib.Core.Path.{◌≡◌, refl, sym, ap, ◌∙◌}
 use mathlib.Core.Bool.{true, false, ◌&&◌}
 use mathlib.Core.List.{List, [], ◌∷◌, ◌++◌}
@@ -11,14 +11,15 @@ use native.Mathlib.Omega.{arith}
 use lib.Dec.{eqb, ltb}
 use lib.Bits.{bit_or, or_add_and}
 use lib.ListN.{length, get_or, take, drop, length-drop, take-append-drop}
-use lib.Seq.{get_or-take, get_or-drop, length-take-le, take-suc, take_all}
+use lib.Seq.{get_or-take, get_or-drop, length-take-le, take-suc}
 use borrow.Author.Tests.{lt-ltb, eq-eqb, ne_eqb}
+use Rattle.std.specs.List.{fold, sum as list_sum}
 use Rattle.refusals.proofs.Rules.{at_every}
 use Rattle.week.specs.WeekList.{weekdays, all_days, together, total, list_keeps_lem}
 use Rattle.week.specs.Store.{with_first, trimmed}
 use Rattle.week.proofs.ListTest.{refuted, days_missing, adds_up}
 use Rattle.week.proofs.WeekList.{list_tested}
-use Rattle.week.proofs.Trimming.{Left, all_left, one_off, none_zero}
+use Rattle.week.proofs.Trimming.{zeros_left, none_zero}
 
 -- ---- One mask more
 
@@ -53,29 +54,14 @@ sum_some (mask ∷ masks) some =
     (λ none. let (k, less, not_0) = sum_some masks (λ rest. some (omega (arith, none, rest, shifted (0 + mask) masks))) in (suc k, omega (arith, less), not_0))
     (λ here. (0, omega arith, here))
 
--- The masks added up to a place.
-pub record Summed (masks : List ℕ) (sum place : ℕ) : Type 0 where
-  pub inside : place ≤ length masks
-  pub sum_is : sum ≡ total (λ mask. mask) 0 (take place masks)
-  pub few : sum ≤ 255 * place
+-- The masks added up from 0 are the library's sum.
+folded : (before : ℕ) (masks : List ℕ) → fold (λ sum mask. sum + mask) before masks ≡ total (λ mask. mask) before masks
+unfolding total
+folded before [] = refl
+folded before (mask ∷ masks) = folded (before + mask) masks
 
-module _ (masks : List ℕ) where
-  pub none_summed : Summed masks 0 0
-  unfolding total
-  none_summed = record { inside = omega arith; sum_is = refl; few = omega arith }
-
-  pub one_summed : (sum place : ℕ) → Summed masks sum place → place < length masks → get_or masks place 0 ≤ 255 → Summed masks (sum + get_or masks place 0) (place + 1)
-  unfolding total
-  one_summed sum place so_far less byte =
-      let mask = get_or masks place 0 in
-      record {
-        inside = omega (arith, less);
-        sum_is = rw (add-one place, take-suc masks place 0 less) (sym (total_append (take place masks) (mask ∷ []) ∙ rw (sym so_far.sum_is) (omega arith)));
-        few = omega (arith, so_far.few, byte);
-      }
-
-  pub all_summed : (sum place : ℕ) → Summed masks sum place → length masks ≤ place → sum ≡ total (λ mask. mask) 0 masks
-  all_summed sum place so_far end = so_far.sum_is ∙ ap (total (λ mask. mask) 0) (take_all place masks end)
+pub sum_total : (masks : List ℕ) → list_sum masks ≡ total (λ mask. mask) 0 masks
+sum_total masks = folded 0 masks
 
 -- Together masks have no more than they make.
 no_more_days : (days before : ℕ) (masks : List ℕ) → days ≤ before → together days masks ≤ total (λ mask. mask) before masks
@@ -156,15 +142,8 @@ module _ (masks : List ℕ) where
     each : (k : ℕ) → k < length (take place masks) → 1 ≤ get_or (take place masks) k 0
     each k less = let less' : k < place = omega (arith, less, long) in rw (get_or-take place masks k 0 less') (so_far.not_0 k less')
 
-    -- All that is behind is 0.
-    down : (rest count : ℕ) → rest + place ≡ count → Left masks count → ((k : ℕ) → place ≤ k → k < count → get_or masks k 0 ≡ 0) → Left masks place
-    down zero count is left zeros = let same : place ≡ count = omega (arith, is) in rw same left
-    down (suc rest) count is left zeros =
-        down rest (count - 1) (omega (arith, is)) (one_off masks count (omega (arith, is)) left (zeros (count - 1) (omega (arith, is)) (omega (arith, is))))
-        (λ k first less. zeros k first (omega (arith, less)))
-
     is_list : ((k : ℕ) → place ≤ k → k < length masks → get_or masks k 0 ≡ 0) → trimmed masks ≡ take place masks
-    is_list zeros = sym (down (length masks - place) (length masks) (omega (arith, so_far.inside)) (all_left masks) zeros).1 ∙ none_zero (take place masks) each
+    is_list zeros = sym (zeros_left masks place so_far.inside zeros).1 ∙ none_zero (take place masks) each
 
     by_prefix : length masks ≤ weekdays → trimmed masks ≡ take place masks → (eqb days all_days && eqb (sum (take place masks)) all_days) ≡ list_keeps_lem (trimmed masks)
     by_prefix few is =

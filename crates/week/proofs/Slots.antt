@@ -1,12 +1,10 @@
 -- The greatest number in the slots, found slot by slot; which versions are kept, and the slot of each.
-use Prim.Native.Nat.{ℕ, suc, ◌+◌, ◌-◌, ◌*◌, ◌/◌, ◌%◌, ◌≤◌, ◌<◌, max}
-use mathlib.Core.Path.{◌≡◌, refl, sym, ap, ◌∙◌}
+use Prim.Native.Nat.{ℕ, ◌+◌, ◌-◌, ◌*◌, ◌/◌, ◌%◌, ◌≤◌, ◌<◌, max}
+use mathlib.Core.Path.{◌≡◌, sym, ap, ◌∙◌}
 use mathlib.Core.Bool.{true}
-use mathlib.Core.List.{List}
-use native.Mathlib.Numerals.{add-one}
+use mathlib.Core.List.{List, [], ◌∷◌}
+use Rattle.std.specs.List.{fold}
 use native.Mathlib.Omega.{arith}
-use lib.ListN.{length, get_or, drop, drop_of_length-le}
-use lib.Seq.{drop-cons}
 use native.Mathlib.Nat.{mod-lt, div-add-mod'}
 use lib.Arith.{digits_mod}
 use lib.Dec.{leb, ltb}
@@ -16,27 +14,14 @@ use Rattle.week.specs.Store.{slots, slot_of_lem, greatest, last_in_lem, Kept, ke
 
 -- ---- The greatest number
 
--- The greatest of those before a slot, and of those from it on.
-abbrev pub Greatest : List ℕ → ℕ → ℕ → Type 0
-Greatest versions newest slot = max newest (greatest (drop slot versions)) ≡ greatest versions
+-- It is the greater of two numbers at each version, from 0 on.
+folded : (first : ℕ) (versions : List ℕ) → fold max first versions ≡ max first (greatest versions)
+unfolding greatest
+folded first [] = omega arith
+folded first (version ∷ versions) = omega (arith, folded (max first version) versions)
 
-pub none_looked_at : (versions : List ℕ) → Greatest versions 0 0
-none_looked_at versions = omega arith
-
-module _ (versions : List ℕ) (newest slot : ℕ) (so_far : Greatest versions newest slot) where
-  first : slot < length versions → greatest (drop slot versions) ≡ max (get_or versions slot 0) (greatest (drop (suc slot) versions))
-  unfolding greatest
-  first inside = rw (drop-cons versions slot 0 inside) refl
-
-  pub greater : slot < length versions → newest < get_or versions slot 0 → Greatest versions (get_or versions slot 0) (slot + 1)
-  greater inside above = rw (add-one slot) (omega (arith, so_far, first inside))
-
-  pub no_greater : slot < length versions → get_or versions slot 0 ≤ newest → Greatest versions newest (slot + 1)
-  no_greater inside less = rw (add-one slot) (omega (arith, so_far, first inside))
-
-  pub greatest_is : length versions ≤ slot → newest ≡ greatest versions
-  unfolding greatest
-  greatest_is end = let rest : greatest (drop slot versions) ≡ 0 = rw (drop_of_length-le versions end) refl in omega (arith, so_far, rest)
+pub greatest_is : (versions : List ℕ) → fold max 0 versions ≡ greatest versions
+greatest_is versions = omega (arith, folded 0 versions)
 
 -- ---- The versions that are kept
 

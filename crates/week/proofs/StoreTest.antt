@@ -1,13 +1,13 @@
 -- The test of a store, slot by slot.
-use Prim.Native.Nat.{ℕ, zero, suc, ◌<◌}
+use Prim.Native.Nat.{ℕ, ◌<◌}
 use mathlib.Core.Path.{◌≡◌, refl}
-use mathlib.Core.Bool.{true, false, ◌&&◌, and-false, or-true, cond}
-use native.Mathlib.Omega.{arith}
+use mathlib.Core.Bool.{true, false, and-false, or-true, cond}
+use Rattle.std.specs.Prelude.{Some, None}
 use lib.Dec.{eqb, ltb}
-use borrow.Author.Tests.{eq-eqb, ne_eqb, lt-ltb}
+use borrow.Author.Tests.{eq-eqb, ne_eqb}
 use Rattle.refusals.proofs.Rules.{both_true}
 use Rattle.week.specs.WeekList.{list_keeps_lem}
-use Rattle.week.specs.Store.{Store, slots, version_at, list_at, newest_of_lem, last_in_lem, slot_keeps, below, store_keeps}
+use Rattle.week.specs.Store.{Store, slots, version_at, list_at, newest_of_lem, last_in_lem, slot_keeps, store_keeps}
 use Rattle.week.proofs.Below.{below_breaks}
 
 -- ---- A slot
@@ -28,12 +28,5 @@ module _ (S : Store) (slot : ℕ) where
 -- ---- The store
 
 module _ (S : Store) where
-  pub slot_breaks : (slot : ℕ) → slot < slots → slot_keeps S slot ≡ false → 0 ≡ cond (store_keeps S) (newest_of_lem S) 0
+  pub slot_breaks : (slot : ℕ) → slot < slots → slot_keeps S slot ≡ false → None ≡ cond (store_keeps S) (Some (newest_of_lem S)) None
   slot_breaks slot less breaks = rw (below_breaks slots (slot_keeps S) slot less breaks, and-false (ltb 0 (newest_of_lem S))) refl
-
-  pub all_keep : below slots (slot_keeps S) ≡ true → newest_of_lem S ≡ cond (store_keeps S) (newest_of_lem S) 0
-  all_keep keep = rw keep (either (newest_of_lem S))
-    where
-      either : (newest : ℕ) → newest ≡ cond (ltb 0 newest && true) newest 0
-      either zero = refl
-      either (suc newest) = rw (lt-ltb 0 (suc newest) (omega arith)) refl

@@ -4,8 +4,8 @@ use mathlib.Core.Path.{◌≡◌, refl, sym, ap, ◌∙◌}
 use mathlib.Core.List.{List, [], ◌∷◌, ◌++◌}
 use native.Mathlib.Numerals.{add-one}
 use native.Mathlib.Omega.{arith}
-use lib.ListN.{length, get_or, take, drop, set, replicate, length-append, length-replicate, length-take}
-use lib.Seq.{take-suc, take_all, take-length, paste, paste-suc, length-paste}
+use lib.ListN.{length, get_or, take, drop, replicate, length-append, length-replicate, length-take}
+use lib.Seq.{take-suc, take-length}
 use Rattle.week.specs.WeekList.{weekdays}
 use Rattle.week.specs.Store.{with_first, trimmed, masks_in_lem, list_in_lem, row}
 
@@ -36,23 +36,33 @@ pub all_left : (masks : List ℕ) → Left masks (length masks)
 all_left masks = (omega arith, ap trimmed (take-length masks))
 
 module _ (masks : List ℕ) where
-  pub one_off : (count : ℕ) → 0 < count → Left masks count → get_or masks (count - 1) 0 ≡ 0 → Left masks (count - 1)
+  one_off : (count : ℕ) → 0 < count → Left masks count → get_or masks (count - 1) 0 ≡ 0 → Left masks (count - 1)
   one_off zero some left is = absurd (omega arith)
   one_off (suc count) some left is =
       let before : suc count - 1 ≡ count = omega arith in
       let last : get_or masks count 0 ≡ 0 = rw⁻¹ before is in
       rw before (omega (arith, left.0), sym (rw (take-suc masks count 0 left.0, last) (zero_off (take count masks))) ∙ left.1)
 
-  pub rest_is : (count : ℕ) → 0 < count → Left masks count → (get_or masks (count - 1) 0 ≡ 0 → ⊥) → take count masks ≡ trimmed masks
-  rest_is zero some left not_0 = absurd (omega arith)
-  rest_is (suc count) some left not_0 =
-      let before : suc count - 1 ≡ count = omega arith in
-      sym (rw (take-suc masks count 0 left.0) (none_off (take count masks) (get_or masks count 0) (rw⁻¹ before not_0))) ∙ left.1
+  down : (place rest count : ℕ) → rest + place ≡ count → Left masks count → ((k : ℕ) → place ≤ k → k < count → get_or masks k 0 ≡ 0) → Left masks place
+  down place zero count is left zeros = let same : place ≡ count = omega (arith, is) in rw same left
+  down place (suc rest) count is left zeros =
+      down place rest (count - 1) (omega (arith, is)) (one_off count (omega (arith, is)) left (zeros (count - 1) (omega (arith, is)) (omega (arith, is))))
+      (λ k first less. zeros k first (omega (arith, less)))
 
-  pub none_left : (count : ℕ) → Left masks count → count ≤ 0 → [] ≡ trimmed masks
+  -- All that is behind is 0.
+  pub zeros_left : (place : ℕ) → place ≤ length masks → ((k : ℕ) → place ≤ k → k < length masks → get_or masks k 0 ≡ 0) → Left masks place
+  zeros_left place inside zeros = down place (length masks - place) (length masks) (omega (arith, inside)) (all_left masks) zeros
+
+  pub last_is : (last : ℕ) → last < length masks → (get_or masks last 0 ≡ 0 → ⊥) → ((k : ℕ) → last < k → k < length masks → get_or masks k 0 ≡ 0) →
+      take (last + 1) masks ≡ trimmed masks
+  last_is last inside not_0 zeros =
+      rw (add-one last)
+      (sym (rw (take-suc masks last 0 inside) (none_off (take last masks) (get_or masks last 0) not_0))
+      ∙ (zeros_left (suc last) (omega (arith, inside)) (λ k first. zeros k (omega (arith, first)))).1)
+
+  pub none_is : ((k : ℕ) → k < length masks → get_or masks k 0 ≡ 0) → [] ≡ trimmed masks
   unfolding trimmed
-  none_left zero left none = left.1
-  none_left (suc count) left none = absurd (omega arith)
+  none_is zeros = (zeros_left 0 (omega arith) (λ k first. zeros k)).1
 
 -- ---- With zeros behind
 
@@ -63,34 +73,6 @@ pub row_length : (masks : List ℕ) → length masks ≤ weekdays → length (ro
 row_length masks few =
     let rest = weekdays - length masks in
     length-append masks (zeros rest) ∙ rw (length-replicate {A = ℕ} rest 0) (omega (arith, few))
-
-zeros_at : (n place : ℕ) → get_or (zeros n) place 0 ≡ 0
-zeros_at zero place = refl
-zeros_at (suc n) zero = refl
-zeros_at (suc n) (suc place) = zeros_at n place
-
-behind : (n : ℕ) (masks : List ℕ) (place : ℕ) → get_or (masks ++ zeros n) place 0 ≡ get_or masks place 0
-behind n [] place = zeros_at n place
-behind n (mask ∷ masks) zero = refl
-behind n (mask ∷ masks) (suc place) = behind n masks place
-
-pub row_at : (masks : List ℕ) (place : ℕ) → get_or (row masks) place 0 ≡ get_or masks place 0
-row_at masks place = behind (weekdays - length masks) masks place
-
--- ---- Mask by mask
-
-module _ (masks lists : List ℕ) (start : ℕ) (few : length masks ≤ weekdays) (inside : start + weekdays ≤ length lists) where
-  pub one_written : (place : ℕ) → place < weekdays →
-      set (paste lists start (row masks) place) (start + place) (get_or masks place 0) ≡ paste lists start (row masks) (place + 1)
-  one_written place less =
-      rw (sym (row_at masks place), add-one place)
-      (paste-suc lists start (row masks) place 0 (omega (arith, inside, less)) (rw (row_length masks few) less))
-
-  pub part_long : (place : ℕ) (table : List ℕ) → place ≤ weekdays → table ≡ paste lists start (row masks) place → length table ≡ length lists
-  part_long place table less is = rw is (length-paste lists start (row masks) place (omega (arith, inside, less)) (omega (arith, less, row_length masks few)))
-
-  pub all_written : (place : ℕ) → place ≡ weekdays → paste lists start (row masks) place ≡ take start lists ++ row masks ++ drop (start + weekdays) lists
-  all_written place all = rw (all, take_all weekdays (row masks) (omega (arith, row_length masks few))) refl
 
 -- ---- A stored list
 

@@ -2,16 +2,9 @@
 -- list that breaks these rules, or a change at version 65,535; (..) 42, a store that has no version, or whose kept versions are not the consecutive
 -- last ones, 16 or as many as were made, or hold a broken list, tested first."
 use Rattle.std.specs.Prelude.{ℕ, ◌+◌, ◌<◌, ◌≡◌, not, ◌&&◌, List, [], ◌∷◌, ◌↔◌, ◌⊎◌, ltb}
-use Rattle.refusals.specs.Refusals.{number_of}
 use Rattle.refusals.specs.Rules.{Outcome, refused, replied, ◌if◌, first_broken, after}
 use Rattle.week.specs.WeekList.{WeekList, list_keeps_lem}
 use Rattle.week.specs.Store.{Store, Sized, Keeps, newest_of_lem, store_keeps, with_version, no_versions}
-use Rattle.week.specs.declared.making.Made.{Made}
-use Rattle.week.specs.declared.making.Made.TheVariants.{Version, Refused}
-
-abbrev pub outcome_of : Made → Outcome ℕ
-outcome_of (Version version) = replied version
-outcome_of (Refused refusal) = refused (number_of refusal)
 
 -- Making looks at the list alone. Accepted, it leaves nothing of what the tables held; refused, all of it.
 abbrev pub new_answer : List ℕ → Outcome ℕ

@@ -2,17 +2,10 @@
 -- list. A change leaves the replies for earlier versions still kept the same." "41, a version not kept or a day above 6; 42, a store that has no
 -- version, (..) tested first."
 use Rattle.std.specs.Prelude.{ℕ, ◌+◌, ◌≤◌, ◌<◌, ◌≡◌, not, ◌&&◌, List, [], ◌∷◌, ◌↔◌, ◌⊎◌, ltb}
-use Rattle.refusals.specs.Refusals.{number_of}
 use Rattle.refusals.specs.Rules.{Outcome, refused, replied, ◌if◌, first_broken}
 use Rattle.week.specs.WeekList.{weekdays, OnlyPlace, place_of_lem}
 use Rattle.week.specs.Store.{Store, Sized, slots, slot_of_lem, list_at, Kept, Keeps, newest_of_lem, store_keeps, kept}
 use Rattle.week.specs.Making.{new_answer, new_leaves, change_answer, change_leaves}
-use Rattle.week.specs.declared.planning.Plan.{Plan}
-use Rattle.week.specs.declared.planning.Plan.TheVariants.{Place, Refused}
-
-abbrev pub outcome_of : Plan → Outcome ℕ
-outcome_of (Place place) = replied place
-outcome_of (Refused refusal) = refused (number_of refusal)
 
 abbrev pub plan_answer : Store → ℕ → ℕ → Outcome ℕ
 plan_answer S version day =

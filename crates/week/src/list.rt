@@ -10,26 +10,17 @@ pub(crate) const ALL_DAYS: u8 = 127;
 pub(crate) fn list_keeps(masks: &[u8]) -> bool
     ensures { result ≡ list_keeps_lem masks.now }
 {
-    if masks.len() == 0 {
-        return false;
-    }
-    if WEEKDAYS < masks.len() {
+    if masks.is_empty() || WEEKDAYS < masks.len() {
         return false;
     }
     let mut together = 0;
     let mut ones = 0;
-    let mut place = 0;
-    while place < masks.len() {
-        let mask = masks[place];
-        if mask == 0 {
-            return false;
-        }
-        if ALL_DAYS < mask {
+    for &mask in masks {
+        if mask == 0 || ALL_DAYS < mask {
             return false;
         }
         together |= mask;
         ones += u8::count_ones(mask);
-        place += 1;
     }
     if together != ALL_DAYS {
         return false;
@@ -42,12 +33,8 @@ pub(crate) fn place_of(masks: &[u8], day: u32) -> usize
     requires { day < weekdays }
     ensures { result ≡ place_of_lem day masks.now }
 {
-    let mut place = 0;
-    while place < masks.len() {
-        if (masks[place] >> day) & 1 == 1 {
-            return place;
-        }
-        place += 1;
-    }
-    place
+    masks
+        .iter()
+        .position(|mask| (*mask >> day) & 1 == 1)
+        .unwrap_or(masks.len())
 }

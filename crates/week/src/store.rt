@@ -1,7 +1,7 @@
 // The store of the last 16 versions: which version stands in which slot, whether the store is a good one, and a version put into its slot.
-ghost use Rattle.std.specs.Prelude.{◌≡◌, ◌&&◌, cond, eqb, ◌*◌, ◌≤◌, ◌<◌, length, get_or, take, set};
+ghost use Rattle.std.specs.Prelude.{◌≡◌, ◌&&◌, cond, eqb, Some, None, ◌*◌, ◌≤◌, ◌<◌, length, get_or, take, set};
 ghost use Rattle.week.specs.WeekList.{weekdays, all_days, total, list_keeps_lem};
-ghost use Rattle.week.specs.Store.{store, slots, slot_of_lem, trimmed, masks_in_lem, list_in_lem, greatest, newest_of_lem, last_in_lem, store_keeps, with_list};
+ghost use Rattle.week.specs.Store.{store, slots, slot_of_lem, trimmed, masks_in_lem, list_in_lem, greatest, newest_of_lem, last_in_lem, store_keeps, row as row_of, with_list};
 
 use crate::list::{ALL_DAYS, WEEKDAYS};
 
@@ -20,6 +20,8 @@ pub(crate) fn slot_of(version: u16) -> usize
 
 // ---- The lists
 
+// `slot < slots` and `length masks.now ≤ weekdays` stay clauses: each bounds one number, and a type for it would be opened at each use.
+
 // The seven masks of a slot.
 fn masks_in(lists: &[u8], slot: usize) -> &[u8]
     requires slot_lt_slots { slot < slots }
@@ -36,14 +38,10 @@ fn list_length(masks: &[u8]) -> usize
     ensures upper_bound { result ≤ length masks.now }
     ensures masks_value { take result masks.now ≡ trimmed masks.now }
 {
-    let mut count = masks.len();
-    while 0 < count {
-        if masks[count - 1] != 0 {
-            return count;
-        }
-        count -= 1;
-    }
-    0
+    masks
+        .iter()
+        .rposition(|mask| *mask != 0)
+        .map_or(0, |last| last + 1)
 }
 
 pub(crate) fn list_in(lists: &[u8], slot: usize) -> &[u8]
@@ -60,23 +58,14 @@ fn sum_of(masks: &[u8]) -> u32
     requires { length masks.now ≤ weekdays }
     ensures { result ≡ total (λ mask. mask) 0 masks.now }
 {
-    let mut sum = 0;
-    let mut place = 0;
-    while place < masks.len() {
-        sum += masks[place] as u32;
-        place += 1;
-    }
-    sum
+    masks.iter().map(|mask| u32::from(*mask)).sum()
 }
 
 // Masks that have all seven days together have each of them once exactly if they add up to all days.
 fn add_up(together: u8, sum: u32) -> bool
     ensures { result ≡ (eqb together all_days && eqb sum all_days) }
 {
-    if together != ALL_DAYS {
-        return false;
-    }
-    sum == ALL_DAYS as u32
+    together == ALL_DAYS && sum == ALL_DAYS as u32
 }
 
 // Whether the list in the masks of a slot keeps the rules. It is the test of a given list in fewer steps, for the 16 lists of a store: the masks are added up,
@@ -87,28 +76,25 @@ fn stored_keeps(masks: &[u8]) -> bool
 {
     let sum = sum_of(masks);
     let mut together = 0;
-    let mut place = 0;
-    while place < masks.len() {
-        let mask = masks[place];
+    for &mask in masks {
         if mask == 0 {
             return add_up(together, sum);
         }
         together |= mask;
-        place += 1;
     }
     add_up(together, sum)
 }
 
-fn mask_at(masks: &[u8], place: usize) -> u8
-    ensures { result ≡ get_or masks.now place 0 }
+// The list's masks, and zeros behind them.
+fn put_row(masks: &[u8], row: &mut [u8])
+    requires masks_len_bound { length masks.now ≤ weekdays }
+    requires row_len { length row.old ≡ weekdays }
+    ensures { row.new ≡ row_of masks.now }
 {
-    if place < masks.len() {
-        return masks[place];
-    }
-    0
+    row.fill(0);
+    row[..masks.len()].copy_from_slice(masks);
 }
 
-// The list's masks, and zeros behind them.
 fn put_list(masks: &[u8], slot: usize, lists: &mut [u8])
     requires slot_lt_slots { slot < slots }
     requires masks_len_bound { length masks.now ≤ weekdays }
@@ -116,11 +102,8 @@ fn put_list(masks: &[u8], slot: usize, lists: &mut [u8])
     ensures { lists.new ≡ with_list slot masks.now lists.old }
 {
     let start = slot * WEEKDAYS;
-    let mut place = 0;
-    while place < WEEKDAYS {
-        lists[start + place] = mask_at(masks, place);
-        place += 1;
-    }
+    let end = start + WEEKDAYS;
+    put_row(masks, &mut lists[start..end]);
 }
 
 // ---- The versions
@@ -128,15 +111,9 @@ fn put_list(masks: &[u8], slot: usize, lists: &mut [u8])
 fn newest_of(versions: &[u16]) -> u16
     ensures { result ≡ greatest versions.now }
 {
-    let mut newest = 0;
-    let mut slot = 0;
-    while slot < versions.len() {
-        if newest < versions[slot] {
-            newest = versions[slot];
-        }
-        slot += 1;
-    }
-    newest
+    versions
+        .iter()
+        .fold(0, |newest, version| newest.max(*version))
 }
 
 // The last version up to the newest whose slot this is, or 0 where no version has come to this slot yet.
@@ -149,24 +126,23 @@ fn last_in(newest: u16, slot: usize) -> u16
     0
 }
 
-// The newest version of a good store, and 0 where the store is broken.
-pub(crate) fn newest_kept(versions: &[u16; SLOTS], lists: &[u8; MASKS]) -> u16
-    ensures { result ≡ cond (store_keeps (store versions.now lists.now)) (newest_of_lem (store versions.now lists.now)) 0 }
+// The newest version of a good store. The two tables stay apart: C lends them apart, and below the operations this alone reads both and `put_version` alone writes both.
+pub(crate) fn newest_kept(versions: &[u16; SLOTS], lists: &[u8; MASKS]) -> Option<u16>
+    ensures { result ≡ cond (store_keeps (store versions.now lists.now)) (Some (newest_of_lem (store versions.now lists.now))) None }
 {
     let newest = newest_of(versions);
-    let mut slot = 0;
-    while slot < SLOTS {
-        if versions[slot] != last_in(newest, slot) {
-            return 0;
-        }
-        if versions[slot] != 0 {
-            if !stored_keeps(masks_in(lists, slot)) {
-                return 0;
-            }
-        }
-        slot += 1;
+    if newest == 0 {
+        return None;
     }
-    newest
+    for (slot, &version) in versions.iter().enumerate() {
+        if version != last_in(newest, slot) {
+            return None;
+        }
+        if version != 0 && !stored_keeps(masks_in(lists, slot)) {
+            return None;
+        }
+    }
+    Some(newest)
 }
 
 // Puts a version into its slot, and touches no other.

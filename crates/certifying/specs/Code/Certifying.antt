@@ -1,17 +1,11 @@
 -- What the check of sent tables looks at, junction by junction and arc by arc.
-use Rattle.std.specs.Prelude.{ℕ, ◌≤◌, ◌<◌, ◌≡◌, Bool, true, false, not, List, leb, eqb, length, get_or}
-use Rattle.std.proofs.Math.Option.{Option, none, some}
+use Rattle.std.specs.Prelude.{ℕ, ◌≤◌, ◌<◌, ◌≡◌, Bool, true, false, not, List, leb, eqb, length, get_or, Option, None, Some}
 use Rattle.model.specs.Ticks.{last, never}
 use Rattle.model.specs.Limits.{max_arcs, max_intervals, max_junctions}
 use Rattle.model.specs.Intervals.{FencesKept}
 use Rattle.model.specs.Labels.{no_arc}
 use Rattle.model.specs.Network.{Network}
 use Rattle.closed_arcs.specs.FromLabels.{offered}
-
--- A Boolean that decides P: true where P holds, false where it does not.
-pub data Decides (P : Type 0) : Bool → Type 0 where
-  says_yes : P → Decides P true
-  says_no : (P → ⊥) → Decides P false
 
 -- ---- A junction
 
@@ -43,8 +37,8 @@ meets? tick label false = leb label tick
 
 -- The same where the arc may not be driven: then it must not be the predecessor.
 abbrev pub comes_to? : Option (ℕ × ℕ) → ℕ → Bool → Bool
-comes_to? (some (tick, interval)) label chosen = meets? tick label chosen
-comes_to? none label chosen = not chosen
+comes_to? (Some (tick, interval)) label chosen = meets? tick label chosen
+comes_to? None label chosen = not chosen
 
 -- The arc keeps the labels at its ends: the arrival from the tail's label is no earlier than the head's label; and it is the label, by the last tick, where the
 -- arc is the head's predecessor.

@@ -1,8 +1,7 @@
 -- What converting asks of a text, which one without fault keeps, and what is told by its lines without reading their fields.
-use Rattle.std.specs.Prelude.{ℕ, ◌+◌, ◌-◌, ◌*◌, ◌≤◌, ◌<◌, ◌≡◌, Bool, not, cond, ◌&&◌, List, ◌∷◌, length, take, drop}
+use Rattle.std.specs.Prelude.{ℕ, ◌+◌, ◌-◌, ◌*◌, ◌<◌, ◌≡◌, Bool, not, cond, ◌&&◌, List, ◌∷◌, length, drop}
 use Rattle.model.specs.Rules.{every}
 use Rattle.townfile.specs.Grammar.{joined}
-use Rattle.townfile.specs.Lines.{first_two}
 use Rattle.conversion.specs.Conversion.{lines_of}
 use Rattle.conversion.specs.Code.LineEnds.{loses_none}
 
@@ -10,13 +9,11 @@ use Rattle.conversion.specs.Code.LineEnds.{loses_none}
 abbrev pub InLines : List ℕ → Type 0
 InLines text = text ≡ joined (lines_of text)
 
--- The line from a place up to its line feed, by its mark and that place, and the lines behind it.
-pub record LineFound (text : List ℕ) (at mark end : ℕ) : Type 0 where
-  pub some_way : at ≤ end
-  pub inside : end < length text
-  pub marked : mark ≡ first_two (take (end - at) (drop at text))
-  pub lines_are : lines_of (drop at text) ≡ take (end - at) (drop at text) ∷ lines_of (drop (end + 1) text)
-  pub lines_left : InLines (drop (end + 1) text)
+-- The line from a place up to its line feed, and the lines behind it.
+pub record LineFound (text : List ℕ) (at : ℕ) (line : List ℕ) : Type 0 where
+  pub inside : at + length line < length text
+  pub lines_are : lines_of (drop at text) ≡ line ∷ lines_of (drop (at + (length line + 1)) text)
+  pub lines_left : InLines (drop (at + (length line + 1)) text)
 
 -- A hold other than 0 is lost on the way back: an arc's line does not end in a space and 0.
 abbrev pub loses_hold_lem : (wanted : Bool) → List ℕ → Bool

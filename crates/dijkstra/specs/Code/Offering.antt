@@ -1,11 +1,11 @@
 -- What the offers of arcs do to the tables of a labelling.
-use Rattle.std.specs.Prelude.{ℕ, ◌*◌, ◌≤◌, ◌<◌, ◌≡◌, Bool, true, false, ◌&&◌, cond, List, ltb, eqb, length, get_or, set}
-use Rattle.std.proofs.Math.Option.{none, some}
+use Rattle.std.specs.Prelude.{ℕ, ◌*◌, ◌≤◌, ◌<◌, ◌≡◌, Bool, true, false, ◌&&◌, cond, List, ltb, eqb, length, get_or, set, None, Some}
 use Rattle.model.specs.Limits.{max_junctions, max_arcs, max_intervals}
 use Rattle.model.specs.Labels.{no_arc}
 use Rattle.model.specs.Network.{Roads}
 use Rattle.closed_arcs.specs.Arcs.{ArrivesOn}
 use Rattle.tournament.specs.Tournament.{Tournament, Entered, key_of}
+use Rattle.dijkstra.specs.declared.tables.Tables.{Tables as Held}
 
 -- What the labelling writes: both buffers, the interval of each label, and the tournament of the junctions that are reached and not settled.
 pub record Tables : Type 0 where
@@ -16,6 +16,15 @@ pub record Tables : Type 0 where
 
 abbrev pub tables : List ℕ → List ℕ → List ℕ → List ℕ → Tables
 tables labels predecessors intervals tree = record { labels = labels; predecessors = predecessors; intervals = intervals; tree = tree }
+
+-- Those that a value of the code holds.
+abbrev pub held : Held → Tables
+held t = tables t.labels.now t.predecessors.now t.intervals t.tree.now
+
+-- Both buffers are those that were lent, so that what stands in them in the end stands behind the caller's references.
+pub record SameBuffers (before after : Held) : Type 0 where
+  pub labels : after.labels.ghost_name ≡ before.labels.ghost_name
+  pub predecessors : after.predecessors.ghost_name ≡ before.predecessors.ghost_name
 
 -- ---- An arc's offer
 
@@ -54,8 +63,8 @@ pub record Leaves (a head t interval : ℕ) (before after : Tables) : Type 0 whe
 
 -- What driving an arc leaves: where it does not arrive by the last tick, all is as it was.
 pub data ArcOffered (R : Roads) (a head tick interval : ℕ) : Tables → Tables → Type 0 where
-  missed : {t : Tables} → ArrivesOn R a tick interval none → ArcOffered R a head tick interval t t
-  offered : {arrival Arrives-in : ℕ} {t u : Tables} → ArrivesOn R a tick interval (some (arrival, Arrives-in)) →
+  missed : {t : Tables} → ArrivesOn R a tick interval None → ArcOffered R a head tick interval t t
+  offered : {arrival Arrives-in : ℕ} {t u : Tables} → ArrivesOn R a tick interval (Some (arrival, Arrives-in)) →
       Leaves a head arrival Arrives-in t u → ArcOffered R a head tick interval t u
 
 -- ---- The offers of a junction's arcs

@@ -6,13 +6,6 @@ use Rattle.townfile.specs.Bytes.{space}
 use Rattle.townfile.specs.Numbers.{decimal, number_keeps}
 use Rattle.fields.specs.Fields.{word_from}
 use Rattle.number_rows.specs.NumbersRead.{numbers_read, row_keeps}
-use Rattle.number_rows.specs.declared.speeds.ShortRead.{ShortRead}
-use Rattle.number_rows.specs.declared.speeds.ShortRead.TheVariants.{To, Unsure}
-
--- What holds of the place that a reading comes to. Of one that cannot tell nothing is said.
-abbrev pub ReadTo : (ℕ → Type 0) → ShortRead → Type 0
-ReadTo holds (To end) = holds end
-ReadTo holds Unsure = Unit
 
 -- The word from a place on is a speed and ends at another place.
 pub record SpeedWord (text : List ℕ) (first end : ℕ) : Type 0 where

@@ -1,6 +1,5 @@
 -- What the passes find and leave in the tables of an accepted network.
-use Rattle.std.specs.Prelude.{ℕ, suc, ◌≤◌, ◌<◌, ◌≡◌, Bool, true, false, List, length, get_or}
-use Rattle.std.proofs.Math.Option.{Option, none, some}
+use Rattle.std.specs.Prelude.{ℕ, suc, ◌≤◌, ◌<◌, ◌≡◌, Bool, true, false, List, length, get_or, Option, None, Some}
 use Rattle.model.specs.Ticks.{never}
 use Rattle.model.specs.Limits.{max_arcs, max_junctions}
 use Rattle.model.specs.Walks.{Net}
@@ -10,8 +9,8 @@ use Rattle.closed_arcs.specs.FromLabels.{TimedLabels, offered, OnArc}
 
 -- The tick of what driving an arc comes to, which is kept for the predecessors.
 abbrev pub tick_of : Option (ℕ × ℕ) → ℕ
-tick_of (some (tick, interval)) = tick
-tick_of none = never
+tick_of (Some (tick, interval)) = tick
+tick_of None = never
 
 -- ---- Arcs that need not be driven again
 

@@ -20,15 +20,15 @@ returns-in_default c =
     record { length = counted; refused = told; output = holds }
 
 pub slice_bounds-town_arrivals-count : goal.slice_bounds-town_arrivals-count
-slice_bounds-town_arrivals-count c = (question_asked _ (sym c.question_in.ensures ∙ c.in-Asked.is)).inside
+slice_bounds-town_arrivals-count c = (question_asked _ (sym c.question_in.ensures ∙ c.in-Some.is)).inside
 
 pub slice_bounds-town_arrivals-start : goal.slice_bounds-town_arrivals-start
-slice_bounds-town_arrivals-start c = (question_asked _ (sym c.question_in.ensures ∙ c.in-Asked.is)).inside
+slice_bounds-town_arrivals-start c = (question_asked _ (sym c.question_in.ensures ∙ c.in-Some.is)).inside
 
 pub returns : goal.returns
 unfolding text_of_arrivals
 returns c =
-    let asked = question_asked _ (sym c.question_in.ensures ∙ c.in-Asked.is) in
-    let town = part_to_end c.args.input.now c.in-Asked.town in
+    let asked = question_asked _ (sym c.question_in.ensures ∙ c.in-Some.is) in
+    let town = part_to_end c.args.input.now c.in-Some.question.town in
     let (counted, (told, holds)) = answer_printed table_of (asked.answers c.if-input-gt-MAX_TEXT.false) (rw town at c.town_arrivals.ensures) in
     record { length = counted; refused = told; output = holds }

@@ -1,7 +1,7 @@
 -- `text::new_text`: what the converter leaves, or its refusal's line.
 use mathlib.Core.Bool.{true}
 use native.Mathlib.Omega.{arith}
-use Rattle.converting.specs.Converted.{reading_of}
+use Rattle.townfile.specs.Answers.{reading_of}
 use Rattle.converted_text.proofs.Texts.{ends_printed}
 use Rattle.converted_text.proofs.text.new_text.Goals as goal
 

@@ -1,7 +1,7 @@
 -- `text::old_text`: what the converter leaves, or its refusal's line.
 use mathlib.Core.Bool.{false}
 use native.Mathlib.Omega.{arith}
-use Rattle.converting.specs.Converted.{reading_of}
+use Rattle.townfile.specs.Answers.{reading_of}
 use Rattle.converted_text.proofs.Texts.{ends_printed}
 use Rattle.converted_text.proofs.text.old_text.Goals as goal
 

@@ -1,17 +1,17 @@
 -- `label::label_all` keeps `Between` from round to round, and where no junction is left to settle the tables are the only ones that
 -- satisfy the conditions.
-use Rattle.model.specs.Network.{network}
 use Rattle.model.specs.Closures.{closures_of}
-use Rattle.dijkstra.specs.Code.Offering.{tables}
+use Rattle.model.specs.Lent.{lent_network}
+use Rattle.dijkstra.specs.Code.Offering.{held, SameBuffers}
 use Rattle.dijkstra.proofs.Standing.{waiting}
 use Rattle.dijkstra.proofs.Rounds.{Between}
 use Rattle.dijkstra.proofs.label.label_all.Given as goal
 
-abbrev pub invariant-loop-first : goal.invariant-loop-first
-invariant-loop-first l =
-    Between (network l.junctions l.fences l.tails l.heads l.lengths l.holds l.speeds (closures_of l.closures))
-    l.source l.departure l.first l.next l.settled (tables l.labels l.predecessors l.intervals l.tree)
+abbrev pub invariant-loop-roads : goal.invariant-loop-roads
+invariant-loop-roads l =
+    Between (lent_network l.fn.network (closures_of l.closures)) l.source l.departure l.links.first l.links.next l.settled (held l.tables)
+    × SameBuffers l.initial.tables l.tables
 
-abbrev pub decreases-loop-first : goal.decreases-loop-first
-decreases-loop-first l =
+abbrev pub decreases-loop-roads : goal.decreases-loop-roads
+decreases-loop-roads l =
     waiting l.settled

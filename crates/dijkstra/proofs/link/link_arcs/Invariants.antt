@@ -3,7 +3,4 @@ use Rattle.dijkstra.proofs.Linking.{Linking}
 use Rattle.dijkstra.proofs.link.link_arcs.Given as goal
 
 abbrev pub invariant-loop-a : goal.invariant-loop-a
-invariant-loop-a l = Linking l.tails l.first l.next l.a
-
-abbrev pub decreases-loop-a : goal.decreases-loop-a
-decreases-loop-a l = l.a
+invariant-loop-a l = Linking l.tails l.links.first l.links.next l.a

@@ -8,7 +8,7 @@ use Rattle.driving.proofs.closed.drive_closed.Given as goal
 
 abbrev pub invariant-loop-tick : goal.invariant-loop-tick
 invariant-loop-tick l =
-    DrivingClosed l.departure l.interval l.metres l.fences l.speeds l.arc (closures_of l.closures) l.k l.tick l.left
+    DrivingClosed l.departure l.interval l.road.metres l.road.fences.now l.road.speeds.now l.works.arc (closures_of l.works.closures.now) l.k l.tick l.left
 
 abbrev pub decreases-loop-tick : goal.decreases-loop-tick
 decreases-loop-tick l = last - l.tick

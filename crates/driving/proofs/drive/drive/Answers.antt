@@ -2,48 +2,41 @@
 -- from which the arrival is the whole's. On any arc the interval is one that the loop has come to, or the one after it.
 use Rattle.std.proofs.Common.{ap, refl, arith}
 use Rattle.model.specs.Intervals.{tick_and_interval?}
-use Rattle.driving.proofs.Driving.{kept_inside, never_leaves, driving_starts, arrives_within, arrives_at_end, drives_on, drives_past_midnight, never_arrives}
+use Rattle.driving.proofs.Driving.{kept_inside, never_leaves, driving_starts, arrives_by_end, drives_on, drives_past_midnight, never_arrives}
 use Rattle.driving.proofs.drive.drive.Goals as goal
 
 pub returns-then-intervals-interval-clause-result_value : goal.returns-then-intervals-interval-clause-result_value
 returns-then-intervals-interval-clause-result_value c =
-    λ kept. absurd (omega (arith, c.if-intervals-interval.true, c.intervals_of-intervals.ensures, kept_inside kept))
+    λ kept. absurd (omega (arith, c.if-intervals-interval.true, c.min-intervals.ensures, kept_inside kept))
 
 pub returns-then-departure-ge-LAST-clause-result_value : goal.returns-then-departure-ge-LAST-clause-result_value
 returns-then-departure-ge-LAST-clause-result_value c = λ kept. ap (tick_and_interval? _) (never_leaves kept c.if-departure-ge-LAST.true)
 
 pub loop-left-init : goal.loop-left-init
 loop-left-init c =
-    driving_starts (omega (arith, c.if-intervals-interval.false, c.intervals_of-intervals.ensures)) c.if-departure-ge-LAST.false
-    c.ranges.metres c.time_of_day-time.ensures refl
+    driving_starts (omega (arith, c.if-intervals-interval.false, c.min-intervals.ensures)) c.if-departure-ge-LAST.false
+    c.time_of_day-time.ensures refl
 
 pub loop-left-preserved-then-k-intervals : goal.loop-left-preserved-then-k-intervals
 loop-left-preserved-then-k-intervals c =
     drives_past_midnight c.loop-left.invariant c.interval_end-end.ensures c.covered_until-covers.ensures c.if-left-covers.false
-    (omega (arith, c.intervals_of-intervals.ensures, c.if-k-intervals.true)) (omega (arith, c.if-midnight-ge-LAST.false)) refl
+    (omega (arith, c.min-intervals.ensures, c.if-k-intervals.true)) (omega (arith, c.if-midnight-ge-LAST.false)) refl
 
 pub loop-left-preserved : goal.loop-left-preserved
 loop-left-preserved c =
     drives_on c.loop-left.invariant c.interval_end-end.ensures c.covered_until-covers.ensures c.if-left-covers.false
-    (omega (arith, c.loop-left.invariant.inside, c.intervals_of-intervals.ensures, c.if-k-intervals.false))
-    (record { fits = c.interval_end-end.type_inv }) refl
+    (omega (arith, c.loop-left.invariant.inside, c.min-intervals.ensures, c.if-k-intervals.false))
+    refl
 
-pub returns-then-arrives-end-clause-result_value : goal.returns-then-arrives-end-clause-result_value
-returns-then-arrives-end-clause-result_value c =
+pub returns-then-left-covers-clause-result_value : goal.returns-then-left-covers-clause-result_value
+returns-then-left-covers-clause-result_value c =
     λ kept.
-    arrives_within c.loop-left.invariant c.interval_end-end.ensures c.covered_until-covers.ensures kept c.if-left-covers.true
-    (rw c.ticks_for.ensures) c.wrapping_add_u32.ensures.value c.if-arrives-end.true
-
-pub returns-else-arrives-end-clause-result_value : goal.returns-else-arrives-end-clause-result_value
-returns-else-arrives-end-clause-result_value c =
-    λ kept.
-    arrives_at_end c.loop-left.invariant c.interval_end-end.ensures c.covered_until-covers.ensures kept c.if-left-covers.true
-    (rw c.ticks_for.ensures) c.wrapping_add_u32.ensures.value c.if-arrives-end.false
-    (rw (← c.intervals_of-intervals.ensures) c.interval_after.ensures.value)
+    arrives_by_end c.loop-left.invariant c.interval_end-end.ensures c.covered_until-covers.ensures kept c.if-left-covers.true
+    (rw c.ticks_for.ensures) refl (rw (← c.min-intervals.ensures) c.interval_by_end.ensures.value)
 
 pub returns-then-midnight-ge-LAST-clause-result_value : goal.returns-then-midnight-ge-LAST-clause-result_value
 returns-then-midnight-ge-LAST-clause-result_value c =
     λ kept.
     ap (tick_and_interval? _)
     (never_arrives c.loop-left.invariant c.interval_end-end.ensures c.covered_until-covers.ensures kept c.if-left-covers.false
-    (omega (arith, kept.as_many, c.intervals_of-intervals.ensures, c.if-k-intervals.true)) c.if-midnight-ge-LAST.true)
+    (omega (arith, kept.as_many, c.min-intervals.ensures, c.if-k-intervals.true)) c.if-midnight-ge-LAST.true)

@@ -5,7 +5,7 @@ use Rattle.driving.proofs.drive.drive.Given as goal
 
 abbrev pub invariant-loop-left : goal.invariant-loop-left
 invariant-loop-left l =
-    Driving l.departure l.interval l.metres l.fences l.speeds l.midnight l.k l.time l.left
+    Driving l.departure l.interval l.road.metres l.road.fences.now l.road.speeds.now l.midnight l.k l.time l.left
 
 abbrev pub decreases-loop-left : goal.decreases-loop-left
 decreases-loop-left l = turns_left l.intervals l.midnight l.k

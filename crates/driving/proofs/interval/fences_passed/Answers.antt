@@ -1,12 +1,14 @@
--- `interval::fences_passed`: the fences that are left add the rest of the count.
-use Rattle.driving.proofs.FenceCount.{passed_stops, passed_goes_on, passed_ends}
+-- `interval::fences_passed`: the first fence ahead stands behind as many as have been reached.
+use Rattle.std.proofs.Common.{rules, ap, ◌∙◌}
+use Rattle.std.proofs.lemmas.Iterator.{YieldsList-from_slice}
+use Rattle.std.proofs.lemmas.Iterator.Search.{position_from_yields_List}
+use Rattle.std.specs.Prelude.{length, nat_lt}
+use Rattle.std.specs.Option.{unwrap_or}
+use Rattle.driving.proofs.FenceCount.{passed_found}
 use Rattle.driving.proofs.interval.fences_passed.Goals as goal
 
-pub returns-then-time-fences : goal.returns-then-time-fences
-returns-then-time-fences c = passed_stops _ _ _ _ c.loop-k.invariant c.loop-k-test.true c.if-time-fences.true
-
-pub loop-k-preserved : goal.loop-k-preserved
-loop-k-preserved c = passed_goes_on _ _ _ _ c.loop-k.invariant c.loop-k-test.true c.if-time-fences.false
-
 pub returns : goal.returns
-returns c = passed_ends _ _ _ _ c.loop-k.invariant c.loop-k-test.false
+returns c =
+    let fences = c.args.fences.now in
+    let found = position_from_yields_List (λ fence. nat_lt c.args.time fence) _ _ _ c.position.ensures.ran (YieldsList-from_slice fences cc) (λ x b q k. search rules) in
+    c.unwrap_or.ensures ∙ ap (λ r. unwrap_or r (length fences)) found ∙ passed_found fences c.args.time

@@ -1,9 +1,11 @@
 -- `field::further_digits`: at each turn the number from here on, behind what has been read, is the whole number.
 use borrow.Author.Rules.{rules}
-use mathlib.Core.Path.{◌∙◌}
+use mathlib.Core.Path.{◌≡◌, ap, ◌∙◌}
+use Rattle.std.specs.Prelude.{Some}
+use Rattle.fields.specs.Fields.{field}
 use native.Mathlib.Omega.{arith}
 use lib.ListN.{get_or}
-use Rattle.fields.proofs.LineFrom.{line_ends, word_ends, separator_ends}
+use Rattle.fields.proofs.LineFrom.{at_last, line_ends, word_ends, separator_ends}
 use Rattle.fields.proofs.Digits.{number_ends, number_goes_on, number_too_long, number_stops, below_digits, above_digits}
 use Rattle.fields.proofs.field.further_digits.Goals as goal
 
@@ -25,7 +27,9 @@ returns-in_default-2 c =
 
 pub loop-i-preserved : goal.loop-i-preserved
 loop-i-preserved c =
-    (number_goes_on _ _ _ c.loop-i-test.true (omega arith) (omega arith) ∙ c.loop-i.invariant.0, omega arith)
+    (number_goes_on _ _ _ c.loop-i-test.true (omega arith) (omega arith) ∙ c.loop-i.invariant.0, omega arith, λ past. absurd (omega (arith, past)))
 
 pub returns : goal.returns
-returns c = number_ends _ _ _ (word_ends _ _ (line_ends _ _ c.loop-i-test.false)) c.loop-i.invariant.1 ∙ c.loop-i.invariant.0
+returns c =
+    let last : c.max.result ≡ c.loop-i.i = c.max.ensures ∙ at_last _ _ _ c.loop-i-test.false c.loop-i.auto.i-end c.loop-i.invariant.2 in
+    ap (λ next. Some (field c.loop-i.value next)) last ∙ number_ends _ _ _ (word_ends _ _ (line_ends _ _ c.loop-i-test.false)) c.loop-i.invariant.1 ∙ c.loop-i.invariant.0

@@ -17,4 +17,4 @@ returns-then-text-second-eq-LINE_FEED c = second_is_feed _ _ c.if-text-at.false 
 
 pub returns : goal.returns
 returns c =
-    c.mark_of.ensures ∙ two_bytes_mark _ _ c.if-text-at.false c.if-text-second.false c.if-text-at-eq-LINE_FEED.false c.if-text-second-eq-LINE_FEED.false
+    c.from_be_bytes.ensures ∙ two_bytes_mark _ _ c.if-text-at.false c.if-text-second.false c.if-text-at-eq-LINE_FEED.false c.if-text-second-eq-LINE_FEED.false

@@ -2,8 +2,8 @@
 use Rattle.std.proofs.Common.{arith}
 use Rattle.index_bounds.proofs.fit.fits.Goals as goal
 
-pub returns : goal.returns
-returns c = λ closures. (
+pub returns-then-predecessor_count-junctions : goal.returns-then-predecessor_count-junctions
+returns-then-predecessor_count-junctions c = λ closures. (
   λ e. record {
     tables_fit = (c.tables_fit.ensures closures).0 e;
     source_below = omega arith;

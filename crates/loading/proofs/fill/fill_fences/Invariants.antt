@@ -1,10 +1,10 @@
--- `fill::fill_fences`: at each turn storing the numbers that are left comes to storing all of them.
-use Prim.Native.Nat.{◌-◌}
-use Rattle.loading.proofs.Taking.{Stored}
+-- `fill::fill_fences`: the first entries are the numbers taken so far.
+use mathlib.Core.Path.{◌≡◌}
+use lib.ListN.{take}
+use Rattle.fields.specs.Fields.{numbers_from}
+use Rattle.loading.specs.Code.Filling.{Behind}
 use Rattle.loading.proofs.fill.fill_fences.Given as goal
 
-abbrev pub invariant-loop-k : goal.invariant-loop-k
-invariant-loop-k l = Stored l.text l.at l.start l.count l.initial.fences l.i l.k l.fences
-
-abbrev pub decreases-loop-k : goal.decreases-loop-k
-decreases-loop-k l = l.count - l.k
+abbrev pub invariant-loop-fence : goal.invariant-loop-fence
+invariant-loop-fence l =
+    Behind l.fence-index l.text l.at l.i × (take l.fence-index l.fences ≡ take l.fence-index (numbers_from l.text l.at))

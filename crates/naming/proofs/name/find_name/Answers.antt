@@ -9,10 +9,10 @@ pub name_start-requires : goal.name_start-requires
 name_start-requires c = line_named c.loop-at.invariant
 
 pub overflow_sub-result : goal.overflow_sub-result
-overflow_sub-result c = omega (arith, starts_inside c.loop-at.invariant c.line_end-end.ensures (sym c.in-At.ensures))
+overflow_sub-result c = omega (arith, starts_inside c.loop-at.invariant c.line_end-end.ensures (sym c.in-Some.ensures))
 
-pub returns-in-At : goal.returns-in-At
-returns-in-At c = name_found c.loop-at.invariant c.line_end-end.ensures (sym c.in-At.ensures)
+pub returns-in-Some : goal.returns-in-Some
+returns-in-Some c = name_found c.loop-at.invariant c.line_end-end.ensures (sym c.in-Some.ensures)
 
 pub overflow_add-at : goal.overflow_add-at
 overflow_add-at c = omega (arith, c.line_end-end.ensures, line_inside c.args.text.now c.loop-at.at)

@@ -3,8 +3,8 @@ use mathlib.Core.Path.{sym, ◌∙◌}
 use Rattle.naming.proofs.Naming.{accepted_names, refused_nowhere, accepted_somewhere}
 use Rattle.naming.proofs.name.name_place.Goals as goal
 
-pub returns-in-Refused : goal.returns-in-Refused
-returns-in-Refused c = refused_nowhere _ _ c.in-Refused.ensures
+pub returns-in-Err : goal.returns-in-Err
+returns-in-Err c = refused_nowhere _ _ c.in-Err.ensures
 
 pub find_name-requires : goal.find_name-requires
 find_name-requires c = accepted_names _ _ (sym c.in_default.ensures)

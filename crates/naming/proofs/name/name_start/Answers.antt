@@ -21,23 +21,23 @@ overflow_add-at c =
     let is = marked _ c.mark_at.ensures c.if-mark_at-ne-JUNCTION.false in
     omega (arith, name_begins _ _ c.requires is, line_inside c.args.text.now c.args.at)
 
-pub returns-in_default : goal.returns-in_default
-returns-in_default c =
+pub returns-in_err-number : goal.returns-in_err-number
+returns-in_err-number c =
     let is = marked _ c.mark_at.ensures c.if-mark_at-ne-JUNCTION.false in
-    absurd (field_not_malformed _ _ c.requires is (sym c.in_default.ensures))
+    absurd (field_not_malformed _ _ c.requires is (sym c.in_err-number.ensures))
 
-pub returns-then-value-junction : goal.returns-then-value-junction
-returns-then-value-junction c =
+pub returns-then-number-junction : goal.returns-then-number-junction
+returns-then-number-junction c =
     let is = marked _ c.mark_at.ensures c.if-mark_at-ne-JUNCTION.false in
-    other_junction _ _ c.requires is (sym c.in-Number.ensures) _ c.if-value-junction.true
+    other_junction _ _ c.requires is (sym c.in_ok-number.ensures) _ c.if-number-junction.true
 
 pub overflow_add-result : goal.overflow_add-result
 overflow_add-result c =
     let is = marked _ c.mark_at.ensures c.if-mark_at-ne-JUNCTION.false in
-    let next = next_is _ _ c.requires is (sym c.in-Number.ensures) in
+    let next = next_is _ _ c.requires is (sym c.in_ok-number.ensures) in
     omega (arith, next, name_begins _ _ c.requires is, line_inside c.args.text.now c.args.at)
 
 pub returns : goal.returns
 returns c =
     let is = marked _ c.mark_at.ensures c.if-mark_at-ne-JUNCTION.false in
-    this_junction _ _ c.requires is (sym c.in-Number.ensures) _ c.if-value-junction.false
+    this_junction _ _ c.requires is (sym c.in_ok-number.ensures) _ c.if-number-junction.false

@@ -6,8 +6,8 @@ use Rattle.number_rows.proofs.numbers.numbers_end.Goals as goal
 pub returns-then-not-at_line_end : goal.returns-then-not-at_line_end
 returns-then-not-at_line_end c = numbers_not_ended _ _ _ (sym c.at_line_end.ensures ∙ c.if-not-at_line_end.true)
 
-pub returns-then-within : goal.returns-then-within
-returns-then-within c = numbers_within _ _ c.if-within.true (sym c.at_line_end.ensures ∙ c.if-not-at_line_end.false)
+pub returns-then-not-within : goal.returns-then-not-within
+returns-then-not-within c = numbers_outside _ _ c.if-not-within.true (sym c.at_line_end.ensures ∙ c.if-not-at_line_end.false)
 
-pub returns-else-within : goal.returns-else-within
-returns-else-within c = numbers_outside _ _ c.if-within.false (sym c.at_line_end.ensures ∙ c.if-not-at_line_end.false)
+pub returns : goal.returns
+returns c = numbers_within _ _ c.if-not-within.false (sym c.at_line_end.ensures ∙ c.if-not-at_line_end.false)

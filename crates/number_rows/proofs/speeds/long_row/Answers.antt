@@ -1,6 +1,6 @@
 -- `speeds::long_row`: the loop over the numbers of a line, where each speed is tested alone.
 use Prim.Native.Nat.{◌+◌, ◌-◌}
-use mathlib.Core.Path.{sym, ◌∙◌}
+use mathlib.Core.Path.{refl, sym}
 use native.Mathlib.Omega.{arith}
 use Rattle.model.specs.Rules.{speed_keeps}
 use Rattle.number_rows.specs.NumbersRead.{row_keeps}
@@ -9,14 +9,12 @@ use Rattle.number_rows.proofs.speeds.long_row.Goals as goal
 
 pub returns-in_default : goal.returns-in_default
 returns-in_default c =
-    left_malformed c.loop-k.invariant.0 (omega (arith, c.loop-k-test.true)) (sym c.read_field.ensures ∙ c.in_default.is)
+    left_malformed c.loop.invariant (omega (arith, c.loop-test.true)) (sym c.in_default.ensures)
 
-pub loop-k-preserved : goal.loop-k-preserved
-loop-k-preserved c =
-    let speed = c.in-Number.value in
-    let number = sym c.read_field.ensures ∙ c.in-Number.is in
-    let more = c.loop-k-test.true in
-    let left = row_keeps (c.args.count - (c.loop-k.k + 1)) in (
-      left_goes_on c.loop-k.invariant.0 (omega (arith, more)) (speed_keeps speed) left number c.both-within.ensures (row_next _ _ more speed),
-      omega (arith, more),
-    )
+pub loop-preserved : goal.loop-preserved
+loop-preserved c =
+    let speed = c.in-Some.speed.value in
+    let number = sym c.in-Some.ensures in
+    let more = c.loop-test.true in
+    let left = row_keeps (c.args.count - (c.loop.counter + 1)) in
+    left_goes_on c.loop.invariant (omega (arith, more)) (speed_keeps speed) left number refl (row_next _ _ more speed)

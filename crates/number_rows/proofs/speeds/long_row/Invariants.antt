@@ -1,13 +1,10 @@
 -- `speeds::long_row`: the loop over the numbers of a line, where each speed is tested alone.
-use Prim.Native.Nat.{◌+◌, ◌-◌, ◌≤◌}
+use Prim.Native.Nat.{◌+◌, ◌-◌}
 use mathlib.Core.Bool.{cond}
 use Rattle.number_rows.specs.NumbersRead.{row_keeps}
 use Rattle.number_rows.proofs.NumberLoops.{Left}
 use Rattle.number_rows.proofs.speeds.long_row.Given as goal
 
-abbrev pub invariant-loop-k : goal.invariant-loop-k
-invariant-loop-k l =
-    Left (row_keeps l.count) l.text l.at (l.count + cond l.held 1 0) l.within (row_keeps (l.count - l.k)) l.k l.i × (l.k ≤ l.count)
-
-abbrev pub decreases-loop-k : goal.decreases-loop-k
-decreases-loop-k l = l.count - l.k
+abbrev pub invariant-loop : goal.invariant-loop
+invariant-loop l =
+    Left (row_keeps l.count) l.text l.at (l.count + cond l.held 1 0) l.within (row_keeps (l.count - l.counter)) l.counter l.i

@@ -7,9 +7,9 @@ use Rattle.number_rows.proofs.speeds.row_read.Goals as goal
 -- a space follows the speeds
 pub returns-then-text-end-eq-SPACE : goal.returns-then-text-end-eq-SPACE
 returns-then-text-end-eq-SPACE c =
-    c.row_end.ensures ∙ row_behind _ c.in-To.ensures (space_ends _ _ c.in-To.ensures.inside c.if-text-end-eq-SPACE.true)
+    c.row_end.ensures ∙ row_behind _ c.in-Some.ensures (space_ends _ _ c.in-Some.ensures.inside c.if-text-end-eq-SPACE.true)
 
 -- the line ends behind them
 pub returns-then-text-end-eq-LINE_FEED : goal.returns-then-text-end-eq-LINE_FEED
 returns-then-text-end-eq-LINE_FEED c =
-    c.row_end-then-text-end-eq-LINE_FEED.ensures ∙ row_behind _ c.in-To.ensures (word_ends _ _ (line_feed_ends _ _ c.in-To.ensures.inside c.if-text-end-eq-LINE_FEED.true))
+    c.row_end-then-text-end-eq-LINE_FEED.ensures ∙ row_behind _ c.in-Some.ensures (word_ends _ _ (line_feed_ends _ _ c.in-Some.ensures.inside c.if-text-end-eq-LINE_FEED.true))

@@ -2,9 +2,8 @@
 use mathlib.Core.Path.{ap}
 use native.Mathlib.Omega.{arith}
 use Rattle.townfile.specs.Bytes.{digit}
-use Rattle.number_rows.specs.declared.speeds.ShortRead.TheVariants.{To}
-use Rattle.number_rows.proofs.ShortSpeeds.{one_digit_read, behind_gap}
+use Rattle.number_rows.proofs.ShortSpeeds.{one_digit_read}
 use Rattle.number_rows.proofs.speeds.short_speed.Goals as goal
 
 pub returns-in-48 : goal.returns-in-48
-returns-in-48 c = behind_gap _ _ c.if-text-at-ne-SPACE.false (To _) (one_digit_read _ _ (omega arith) (ap digit c.in-48.is))
+returns-in-48 c = record { gap = c.if-text-at-ne-SPACE.false; digits = one_digit_read _ _ (omega arith) (ap digit c.in-48.is) }

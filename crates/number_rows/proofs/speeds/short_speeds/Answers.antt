@@ -4,7 +4,7 @@ use native.Mathlib.Omega.{arith}
 use Rattle.number_rows.proofs.ShortSpeeds.{row_goes_on}
 use Rattle.number_rows.proofs.speeds.short_speeds.Goals as goal
 
-pub loop-k-preserved : goal.loop-k-preserved
-loop-k-preserved c =
-    let field = c.in-To.ensures in
-    (row_goes_on _ _ _ _ _ c.loop-k.invariant.0 (omega arith) c.loop-k-test.true field, omega arith, omega (arith, field.digits.near))
+pub loop-preserved : goal.loop-preserved
+loop-preserved c =
+    let field = c.in_ok-i.ensures in
+    (row_goes_on _ _ _ _ _ c.loop.invariant.0 (omega arith) c.loop-test.true field, omega (arith, field.digits.near))

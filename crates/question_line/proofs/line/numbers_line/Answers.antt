@@ -23,22 +23,22 @@ returns-then-mark_at-mark c =
     let other = refused c.args.mark c.args.text.now (other_mark _ _ (λ e. c.if-mark_at-mark.true (c.mark_at.ensures ∙ e))) c.args.numbers.now in
     record { answer = other.0; numbers = other.1 }
 
-pub returns-in_default : goal.returns-in_default
-returns-in_default c =
+pub returns-in_err-asked : goal.returns-in_err-asked
+returns-in_err-asked c =
     let is = marked _ c.mark_at.ensures c.if-mark_at-mark.false in
-    let other = refused c.args.mark c.args.text.now (not_counted _ _ is c.if-mark-eq-NONE.false (sym c.in_default.ensures)) c.args.numbers.now in
-    record { answer = other.0; numbers = other.1 }
+    let other = refused c.args.mark c.args.text.now (not_counted _ _ is c.if-mark-eq-NONE.false (sym c.count_numbers.ensures ∙ c.in_err-asked.was)) c.args.numbers.now in
+    record { answer = c.from_residual.ensures ∙ other.0; numbers = other.1 }
 
 pub copy_numbers-requires : goal.copy_numbers-requires
 copy_numbers-requires c =
     let is = marked _ c.mark_at.ensures c.if-mark_at-mark.false in
-    (counted_only _ _ is c.if-mark-eq-NONE.false (sym c.in-Numbers.ensures)).1
+    (counted_only _ _ is c.if-mark-eq-NONE.false (sym c.count_numbers.ensures ∙ c.in_ok-asked.was)).1
 
 pub returns : goal.returns
 returns c =
     let is = marked _ c.mark_at.ensures c.if-mark_at-mark.false in
-    let form = (counted_only _ _ is c.if-mark-eq-NONE.false (sym c.in-Numbers.ensures)).0 in
+    let form = (counted_only _ _ is c.if-mark-eq-NONE.false (sym c.count_numbers.ensures ∙ c.in_ok-asked.was)).0 in
     record {
-      answer = c.in-Numbers.ensures ∙ answer_is _ _ is c.if-mark-eq-NONE.false;
+      answer = sym c.in_ok-asked.was ∙ c.count_numbers.ensures ∙ answer_is _ _ is c.if-mark-eq-NONE.false;
       numbers = c.copy_numbers.ensures ∙ table_is _ _ is c.if-mark-eq-NONE.false form _;
     }

@@ -14,9 +14,9 @@ returns-in_default-printable c =
 pub returns-in-10 : goal.returns-in-10
 returns-in-10 c = comment_ends _ _ _ (line_feed_ends _ _ c.if-text-at.false c.in-10.is)
 
-pub returns-in-Good : goal.returns-in-Good
-returns-in-Good c =
-    comment_behind_gap _ _ _ c.if-text-at.false c.in-32.is c.in-Good.ensures
+pub returns-in-Some : goal.returns-in-Some
+returns-in-Some c =
+    comment_behind_gap _ _ _ c.if-text-at.false c.in-32.is c.in-Some.ensures
 
 pub returns-in_default : goal.returns-in_default
 returns-in_default c = comment_attached _ _ _ c.if-text-at.false (search rules) (search rules)

@@ -1,24 +1,20 @@
 -- `scan::next_line`: what the bytes say, unless the line's end or length comes first.
-use mathlib.Core.Path.{sym, ◌∙◌}
+use mathlib.Core.Path.{◌∙◌}
 use native.Mathlib.Omega.{arith}
-use Rattle.scanning.proofs.Scanning.{line_without_feed, line_too_long, line_of_bytes, line_faults, read_ends}
+use Rattle.std.proofs.lemmas.Result.{err_from_is_err_and}
+use Rattle.scanning.proofs.Scanning.{keeps_refuse, keeps_pass, line_faults, read_ends}
 use Rattle.scanning.proofs.scan.next_line.Goals as goal
 
-pub returns-then-end-text : goal.returns-then-end-text
-returns-then-end-text c = line_without_feed _ _ _ (sym (read_ends _ _ _ c.in-Next.ensures).1 ∙ c.if-end-text.true)
+pub line_keeps-requires : goal.line_keeps-requires
+line_keeps-requires c = omega (arith, (read_ends _ _ _ c.in-Ok.ensures).1)
 
-pub overflow_sub-end : goal.overflow_sub-end
-overflow_sub-end c = omega (arith, (read_ends _ _ _ c.in-Next.ensures).1)
+pub returns-in_err-line_keeps : goal.returns-in_err-line_keeps
+returns-in_err-line_keeps c =
+    let p = err_from_is_err_and c.from_residual.result c.from_residual.ensures.1 in
+    rw (p.1, p.2) (keeps_refuse _ _ _ (read_ends _ _ _ c.in-Ok.ensures).1 c.in_err-line_keeps.ensures)
 
-pub returns-then-end-at-gt-MAX_LINE : goal.returns-then-end-at-gt-MAX_LINE
-returns-then-end-at-gt-MAX_LINE c =
-    let ends = (read_ends _ _ _ c.in-Next.ensures).1 in
-    line_too_long _ _ _ (λ e. c.if-end-text.false (ends ∙ e)) (omega (arith, ends))
+pub returns : goal.returns
+returns c = c.in-Ok.ensures ∙ keeps_pass _ _ _ (read_ends _ _ _ c.in-Ok.ensures).1 c.in_ok-line_keeps.ensures
 
-pub returns-else-end-at-gt-MAX_LINE : goal.returns-else-end-at-gt-MAX_LINE
-returns-else-end-at-gt-MAX_LINE c =
-    let ends = (read_ends _ _ _ c.in-Next.ensures).1 in
-    c.in-Next.ensures ∙ line_of_bytes _ _ _ (λ e. c.if-end-text.false (ends ∙ e)) (omega (arith, ends))
-
-pub returns-in-Fault : goal.returns-in-Fault
-returns-in-Fault c = line_faults _ _ _ c.in-Fault.ensures c.line_fault.ensures
+pub returns-in-Err : goal.returns-in-Err
+returns-in-Err c = line_faults _ _ _ c.in-Err.ensures c.line_fault.ensures

@@ -14,21 +14,21 @@ loop-at-init c = ((rw c.start-progress.ensures (scan_starts _ c.if-text-gt-MAX_T
 
 pub overflow_add-at : goal.overflow_add-at
 overflow_add-at c =
-    let read = scan_goes_on _ c.loop-at.line _ _ c.loop-at-test.true c.in-Next.ensures in
+    let read = scan_goes_on _ c.loop-at.line _ _ c.loop-at-test.true c.in-Ok.ensures in
     record { fits = omega (arith, read.0) }
 
 pub loop-at-smaller : goal.loop-at-smaller
 loop-at-smaller c =
-    let read = scan_goes_on _ c.loop-at.line _ _ c.loop-at-test.true c.in-Next.ensures in
+    let read = scan_goes_on _ c.loop-at.line _ _ c.loop-at-test.true c.in-Ok.ensures in
     omega (arith, read.0, read.1)
 
 pub loop-at-preserved : goal.loop-at-preserved
 loop-at-preserved c =
-    let read = scan_goes_on _ c.loop-at.line _ _ c.loop-at-test.true c.in-Next.ensures in
+    let read = scan_goes_on _ c.loop-at.line _ _ c.loop-at-test.true c.in-Ok.ensures in
     (read.2 ∙ c.loop-at.invariant.0, (omega (arith, read.0), omega (arith, read.1)))
 
-pub returns-in-Fault : goal.returns-in-Fault
-returns-in-Fault c = scan_refused _ _ _ _ c.loop-at-test.true c.in-Fault.ensures ∙ c.loop-at.invariant.0
+pub returns-in-Err : goal.returns-in-Err
+returns-in-Err c = scan_refused _ _ _ _ c.loop-at-test.true c.in-Err.ensures ∙ c.loop-at.invariant.0
 
 pub returns-then-progress-lt-NAMES_DUE : goal.returns-then-progress-lt-NAMES_DUE
 returns-then-progress-lt-NAMES_DUE c =

@@ -11,7 +11,8 @@ use Rattle.model.specs.NetworkRules.{network_check_lem}
 use Rattle.model.specs.Parties.{brigade}
 use Rattle.model.specs.Rules.{Outcome, refused, replied}
 use Rattle.townfile.specs.FirstFault.{refused_at, accepted}
-use Rattle.sheeting.specs.Sheet.{outcome_of, sheet_answer, sheet_figures_after}
+use Rattle.refusals.specs.Answers.{outcome_of}
+use Rattle.sheeting.specs.Sheet.{sheet_answer, sheet_figures_after}
 use Rattle.sheet_text.specs.Answer.{sheet_in, network_sheet_lem, sheet_lines, lines_of}
 use Rattle.sheet_text.specs.Code.Parts.{LinesFit}
 use Rattle.sheet_text.proofs.Networks.{few_junctions, sheet_refused, sheet_written, sheet_fits, sheet_lines_law}
@@ -64,20 +65,20 @@ module _ (N : Network) (source : ℕ) (departures : List ℕ) (checked : network
     lines : sheet_lines table 0 N.junctions ≡ lines_of (sheet_in N source departures)
     lines = sheet_lines_law N source departures checked none labels figures labels_long figures_long e table room starts
 
-pub returns-in-Refused : goal.returns-in-Refused
-returns-in-Refused c =
+pub returns-in-Err : goal.returns-in-Err
+returns-in-Err c =
     rw (refuses _ c.args.source c.args.departures.now c.requires.speeds_value refl c.requires.departures_len_bound
-    (ap outcome_of (sym c.in-Refused.is) ∙ c.sheet_parts.ensures.answer))
+    (ap outcome_of (sym c.in-Err.is) ∙ c.sheet_parts.ensures.answer))
     c.refuse.ensures
 
 pub put_sheet-requires : goal.put_sheet-requires
 put_sheet-requires c =
     fits _ c.args.source c.args.departures.now c.requires.speeds_value refl c.requires.departures_len_bound
-    (ap outcome_of (sym c.in-Written.is) ∙ c.sheet_parts.ensures.answer) c.sheet_parts.new.figures (omega arith) c.sheet_parts.ensures.figures
+    (ap outcome_of (sym c.in-Ok.is) ∙ c.sheet_parts.ensures.answer) c.sheet_parts.new.figures (omega arith) c.sheet_parts.ensures.figures
 
-pub returns-in-Written : goal.returns-in-Written
-returns-in-Written c =
-    let written = ap outcome_of (sym c.in-Written.is) ∙ c.sheet_parts.ensures.answer in
+pub returns-in-Ok : goal.returns-in-Ok
+returns-in-Ok c =
+    let written = ap outcome_of (sym c.in-Ok.is) ∙ c.sheet_parts.ensures.answer in
     let long : length c.sheet_parts.new.figures ≡ 800 = omega arith in
     let same = answers _ c.args.source c.args.departures.now c.requires.speeds_value refl c.requires.departures_len_bound written
     c.sheet_parts.new.figures long c.sheet_parts.ensures.figures in

@@ -1,5 +1,4 @@
 -- `sheet::sheet_text`: the input's length, its first line, and the town file behind it, in turn.
-use Prim.Native.Nat.{◌<◌}
 use mathlib.Core.Path.{sym, ◌∙◌}
 use native.Mathlib.Omega.{arith}
 use borrow.Author.Rules.{part_to_end}
@@ -25,22 +24,21 @@ returns-in_default c =
 pub returns-then-count-eq0 : goal.returns-then-count-eq0
 unfolding sheet_text_lem
 returns-then-count-eq0 c =
-    let line = numbers_asked _ _ (sym c.numbers_line.ensures.answer ∙ c.in-Numbers.is) in
+    let line = numbers_asked _ _ (sym c.numbers_line.ensures.answer ∙ c.in-Some.is) in
     let (counted, (told, holds)) = answer_printed lines_of (sheet_no_source _ line c.if-input-gt-MAX_TEXT.false c.if-count-eq0.true) c.refuse-then-count-eq0.ensures in
     record { length = counted; refused = told; output = holds }
 
 pub slice_bounds-town_sheet-count : goal.slice_bounds-town_sheet-count
-slice_bounds-town_sheet-count c = next_inside _ (numbers_asked _ _ (sym c.numbers_line.ensures.answer ∙ c.in-Numbers.is))
+slice_bounds-town_sheet-count c = next_inside _ (numbers_asked _ _ (sym c.numbers_line.ensures.answer ∙ c.in-Some.is))
 
 pub slice_bounds-town_sheet-start : goal.slice_bounds-town_sheet-start
-slice_bounds-town_sheet-start c = next_inside _ (numbers_asked _ _ (sym c.numbers_line.ensures.answer ∙ c.in-Numbers.is))
+slice_bounds-town_sheet-start c = next_inside _ (numbers_asked _ _ (sym c.numbers_line.ensures.answer ∙ c.in-Some.is))
 
 pub returns : goal.returns
 unfolding sheet_text_lem
 returns c =
-    let line = numbers_asked _ _ (sym c.numbers_line.ensures.answer ∙ c.in-Numbers.is) in
-    let some : 0 < c.in-Numbers.count = omega arith in
-    let town = part_to_end c.args.input.now c.in-Numbers.next in
-    let (counted, (told, holds)) = answer_printed lines_of (sheet_of_line _ line some c.numbers_line.ensures.numbers c.if-input-gt-MAX_TEXT.false)
+    let line = numbers_asked _ _ (sym c.numbers_line.ensures.answer ∙ c.in-Some.is) in
+    let town = part_to_end c.args.input.now c.in-Some.field-0.next in
+    let (counted, (told, holds)) = answer_printed lines_of (sheet_of_line _ line (omega arith) c.numbers_line.ensures.numbers c.if-input-gt-MAX_TEXT.false)
     (rw (town, c.kept_count-end.ensures) at c.town_sheet.ensures) in
     record { length = counted; refused = told; output = holds }

@@ -1,5 +1,5 @@
 -- `figures::column_figures`: at each turn the figures are those of the departures from k on (`Tallied`).
-use Prim.Native.Nat.{suc, ◌-◌}
+use Rattle.std.proofs.Common.{suc, ◌-◌}
 use Rattle.sheeting.proofs.Columns.{Tallied, tally_starts, tally_before, tally_unreached, tally_reached}
 use Rattle.sheeting.proofs.figures.column_figures.Goals as goal
 use Rattle.sheeting.proofs.figures.column_figures.Goals.{In-loop-k}
@@ -8,7 +8,7 @@ tally : (c : In-loop-k) → let args = c.args in Tallied args.labels.now args.de
 tally c = tally_before c.loop-k.invariant c.loop-k-test.true
 
 pub loop-k-init : goal.loop-k-init
-loop-k-init c = tally_starts _ _ _ _
+loop-k-init c = let h = c.default-figures.ensures in tally_starts _ _ _ _ _ h.0 h.1.0 h.1.1.0 h.1.1.1
 
 pub loop-k-preserved-then-label : goal.loop-k-preserved-then-label
 loop-k-preserved-then-label c =

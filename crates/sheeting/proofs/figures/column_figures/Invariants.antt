@@ -4,6 +4,3 @@ use Rattle.sheeting.proofs.figures.column_figures.Given as goal
 
 abbrev pub invariant-loop-k : goal.invariant-loop-k
 invariant-loop-k l = Tallied l.labels l.departures l.junctions l.junction l.k l.figures
-
-abbrev pub decreases-loop-k : goal.decreases-loop-k
-decreases-loop-k l = l.k

@@ -1,12 +1,19 @@
--- `store::list_length` takes zeros off from behind: the invariant is that the masks left have the list that all have.
-use Rattle.week.proofs.Trimming.{one_off, rest_is, none_left}
+-- `store::list_length` looks for the last mask that is not 0.
+use Rattle.std.proofs.Common.{rules, ◌≡◌, ◌≢◌, ◌+◌, ◌<◌, ℕ, List, Option, Some, None, length, get_or, take, MatchOption}
+use Rattle.week.specs.Store.{trimmed}
+use Rattle.week.proofs.Trimming.{last_is, none_is}
 use Rattle.week.proofs.store.list_length.Goals as goal
 
-pub returns-then-masks-count-ne0-clause-masks_value : goal.returns-then-masks-count-ne0-clause-masks_value
-returns-then-masks-count-ne0-clause-masks_value c = rest_is _ _ c.loop-count-test.true c.loop-count.invariant c.if-masks-count-ne0.true
+abbrev Found : List ℕ → Option ℕ → Type 0
+Found masks last = MatchOption last ((k : ℕ) → k < length masks → get_or masks k 0 ≡ 0)
+    (λ i. (i < length masks) × ((get_or masks i 0 ≢ 0) × ((k : ℕ) → i < k → k < length masks → get_or masks k 0 ≡ 0)))
 
-pub loop-count-preserved : goal.loop-count-preserved
-loop-count-preserved c = one_off _ _ c.loop-count-test.true c.loop-count.invariant c.if-masks-count-ne0.false
+is_trimmed : (masks : List ℕ) (last : Option ℕ) (count : ℕ) → Found masks last → MatchOption last (count ≡ 0) (λ i. count ≡ i + 1) → take count masks ≡ trimmed masks
+is_trimmed masks (Some i) count (inside, (some, zeros)) is = rw is (last_is masks i inside some zeros)
+is_trimmed masks None count zeros is = rw is (none_is masks zeros)
 
 pub returns-clause-masks_value : goal.returns-clause-masks_value
-returns-clause-masks_value c = none_left c.args.masks.now _ c.loop-count.invariant c.loop-count-test.false
+returns-clause-masks_value c =
+    let found : Found c.args.masks.now c.rposition.result = search rules in
+    let is : MatchOption c.rposition.result (c.map_or.result ≡ 0) (λ i. c.map_or.result ≡ i + 1) = search rules in
+    is_trimmed c.args.masks.now c.rposition.result c.map_or.result found is

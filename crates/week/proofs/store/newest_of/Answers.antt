@@ -1,14 +1,8 @@
--- `store::newest_of` takes the greater number at each slot: the invariant is that it and the rest have the greatest.
-use Rattle.week.proofs.Slots.{greater, no_greater, greatest_is}
+-- `store::newest_of` takes the greater number at each version.
+use Rattle.std.proofs.Common.{rules, ◌≡◌, ◌∙◌, max}
+use Rattle.std.specs.List.{fold}
+use Rattle.week.proofs.Slots.{greatest_is}
 use Rattle.week.proofs.store.newest_of.Goals as goal
-use Rattle.week.proofs.store.newest_of.Goals.{then-newest-versions, else-newest-versions}
-
-pub loop-slot-preserved : goal.loop-slot-preserved
-loop-slot-preserved c =
-    elim c.if-newest-versions.branch [
-      | then-newest-versions w ↦ rw w.newest-is (greater _ _ _ c.loop-slot.invariant c.loop-slot-test.true w.if-newest-versions.true)
-      | else-newest-versions w ↦ rw w.newest-is (no_greater _ _ _ c.loop-slot.invariant c.loop-slot-test.true w.if-newest-versions.false)
-    ]
 
 pub returns : goal.returns
-returns c = greatest_is _ _ _ c.loop-slot.invariant c.loop-slot-test.false
+returns c = let found : c.fold.result ≡ fold max 0 c.args.versions.now = search rules in found ∙ greatest_is c.args.versions.now

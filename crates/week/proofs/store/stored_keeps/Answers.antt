@@ -6,15 +6,15 @@ use Rattle.week.proofs.store.stored_keeps.Goals as goal
 
 pub returns-then-mask-eq0 : goal.returns-then-mask-eq0
 returns-then-mask-eq0 c =
-    c.add_up.ensures ∙ rw c.sum_of-sum.ensures (decides _ c.loop-place.invariant c.requires (λ less. c.if-mask-eq0.true))
+    c.add_up.ensures ∙ rw c.sum_of-sum.ensures (decides _ c.loop-mask.invariant c.requires (λ less. c.if-mask-eq0.true))
 
-pub loop-place-preserved : goal.loop-place-preserved
-loop-place-preserved c = longer _ c.loop-place.invariant c.loop-place-test.true c.if-mask-eq0.false
+pub loop-mask-preserved : goal.loop-mask-preserved
+loop-mask-preserved c = longer _ c.loop-mask.invariant c.loop-mask-test.true c.if-mask-eq0.false
 
 pub returns : goal.returns
 returns c =
     c.add_up-2.ensures
-    ∙ rw c.sum_of-sum.ensures (decides _ c.loop-place.invariant c.requires (λ less. absurd (omega (arith, less, c.loop-place-test.false))))
+    ∙ rw c.sum_of-sum.ensures (decides _ c.loop-mask.invariant c.requires (λ less. absurd (omega (arith, less, c.loop-mask-test.false))))
 
-pub loop-place-init : goal.loop-place-init
-loop-place-init c = empty _
+pub loop-mask-init : goal.loop-mask-init
+loop-mask-init c = empty _

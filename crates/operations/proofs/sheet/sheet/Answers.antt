@@ -1,0 +1,16 @@
+-- `sheet::sheet`: the rows that are lent stand for the list, and give its answer.
+use Rattle.std.proofs.Common.{[], ◌∙◌}
+use Rattle.model.specs.Lent.{lent_network}
+use Rattle.operations.proofs.Overlong.{alike, sheet_too_long}
+use Rattle.operations.proofs.sheet.sheet.Goals as goal
+
+pub returns : goal.returns
+returns c =
+    let args = c.args in
+    let same = alike (sheet_too_long (lent_network args.network.now []) args.asker args.source args.departures.now args.labels.now args.figures.now) c.read_closures-rows.ensures in
+    let e = c.sheet.ensures in
+    record {
+      answer = e.answer ∙ same.0;
+      labels = e.labels ∙ same.1.0;
+      figures = e.figures ∙ same.1.1;
+    }

@@ -37,7 +37,8 @@ numbers_in_turn turn next t e = rw t (ap (λ n. of_numbers_lem n next) e)
 -- ---- The town
 
 module _ (p : Progress) (held : Bool) (text : List ℕ) (at : ℕ) (turn : p.turn ≡ 0) where
-  town_in_turn : {numbers : Result ℕ Refusal} → numbers ≡ numbers_read town_keeps_lem 2 text at → of_numbers_lem numbers (after_town_lem p held (numbers_from text at)) ≡ town_step p held text at
+  town_in_turn : {numbers : Result ℕ Refusal} → numbers ≡ numbers_read town_keeps_lem 2 text at →
+      of_numbers_lem numbers (after_town_lem p held (numbers_from text at)) ≡ town_step p held text at
   unfolding town_step
   town_in_turn e = numbers_in_turn (eqb p.turn 0) (after_town_lem p held (numbers_from text at)) (eq-eqb p.turn 0 turn) e
 

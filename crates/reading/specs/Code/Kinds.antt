@@ -2,7 +2,8 @@
 use Rattle.std.specs.Prelude.{ℕ, Bool, cond, ◌&&◌, List, Option, Some, None, Result, Ok, Err, leb, ltb, eqb, length}
 use Rattle.model.specs.Limits.{max_arcs}
 use Rattle.model.specs.Rules.{Outcome, refused, replied, fences_keep_lem, length_keeps_lem}
-use Rattle.townfile.specs.Lines.{town_due, fences_due, names_due, arc_fields, town_keeps_lem, junction_keeps_lem, ends_differ, arc_keeps_lem, after_town_lem, after_fences_lem, after_junction, after_arc_lem}
+use Rattle.townfile.specs.Lines.{town_due, fences_due, names_due, arc_fields, town_keeps_lem, junction_keeps_lem, ends_differ, arc_keeps_lem}
+use Rattle.townfile.specs.Lines.{after_town_lem, after_fences_lem, after_junction, after_arc_lem}
 use Rattle.townfile.specs.declared.progress.Progress.{Progress}
 use Rattle.fields.specs.Fields.{word_from, field_at, printable_rest, name_at, numbers_from}
 use Rattle.fields.specs.declared.field.Field.{Field}

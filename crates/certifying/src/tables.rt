@@ -76,10 +76,10 @@ pub fn tables_check(
     let tick = departure.number;
     labels_check(network, closures, asker, source, tick, labels, predecessors)?;
     let mut rows = [[0u32; 4]; MAX_CLOSURES];
-    let stopping = put_stopping(asker, closures, &mut rows);
+    let count = put_stopping(asker, closures, &mut rows);
     Ok(certified(
         network,
-        stopping,
+        &rows[..count],
         source as usize,
         tick,
         labels,

@@ -1,7 +1,8 @@
--- A scan of the fences from the first: what the test says of those that are left, by the next of them.
+-- A scan of a table from its start: what the test says of the entries that are left is what it says of all. And of the fences, where each is tested with the
+-- one before it: what the test says of those that are left, by the next of them.
 use Prim.Native.Nat.{ℕ, ◌+◌, ◌-◌, ◌<◌, ◌≤◌}
 use mathlib.Core.Path.{◌≡◌, refl}
-use mathlib.Core.Bool.{true, ◌&&◌}
+use mathlib.Core.Bool.{Bool, true, false, ◌&&◌}
 use mathlib.Core.List.{List, [], ◌∷◌}
 use native.Mathlib.Numerals.{add-one}
 use lib.ListN.{length, get_or, take, drop, drop_of_length-le}
@@ -11,7 +12,18 @@ use lib.Dec.{eqb, ltb}
 use Rattle.std.proofs.lemmas.Bool.Decides.{nat_tests}
 use Rattle.std.proofs.lemmas.List.{take_rest}
 use Rattle.model.specs.Ticks.{day}
-use Rattle.model.specs.Rules.{rise_from, fences_keep_lem}
+use Rattle.model.specs.Rules.{every, rise_from, fences_keep_lem}
+
+-- The law of a scan, of tables of any entries.
+module _ {A : Type 0} (d : A) (test : A → Bool) (xs : List A) (i : ℕ) (so_far : every test (drop i xs) ≡ every test xs) where
+  pub every_fails : i < length xs → test (get_or xs i d) ≡ false → false ≡ every test xs
+  every_fails h e = rw (drop-cons xs i d h, e) at so_far
+
+  pub every_goes_on : i < length xs → test (get_or xs i d) ≡ true → every test (drop (i + 1) xs) ≡ every test xs
+  every_goes_on h e = rw add-one (rw (drop-cons xs i d h, e) at so_far)
+
+  pub every_ends : length xs ≤ i → true ≡ every test xs
+  every_ends h = rw (drop_of_length-le xs h) at so_far
 
 -- The fences: the first of them, and then each with the one before it.
 pub none_keep : (fences : List ℕ) → length fences ≡ 0 → true ≡ fences_keep_lem fences

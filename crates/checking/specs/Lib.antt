@@ -1,3 +1,4 @@
 pub mod ClosedNetwork
+pub mod Highest
 pub mod Question
 pub mod Code

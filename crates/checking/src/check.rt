@@ -10,10 +10,10 @@ use crate::rule::from_1_to;
 use model::limit::{MAX_HOLD, MAX_JUNCTIONS};
 use model::network::Network;
 
-pub(crate) fn junction_count_keeps(junctions: u32) -> bool
+pub(crate) fn junction_count_keeps(junctions: usize) -> bool
     ensures { result ≡ junctions_keep junctions }
 {
-    from_1_to(MAX_JUNCTIONS, junctions as usize)
+    from_1_to(MAX_JUNCTIONS, junctions)
 }
 
 // The tables of arcs are as long as they should be. The product fits, since the counts are within their limits.

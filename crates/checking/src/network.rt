@@ -29,7 +29,7 @@ pub fn network_check(network: &Network) -> Result<(), Refusal>
     if !fences_keep(network.fences) {
         return Err(Refusal::Fence);
     }
-    if !ends_keep(network.junctions, network.tails, network.heads) {
+    if !ends_keep(network.junctions as u32, network.tails, network.heads) {
         return Err(Refusal::ArcEnds);
     }
     if !lengths_keep(network.lengths) {

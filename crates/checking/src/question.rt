@@ -21,7 +21,7 @@ pub fn question_check(
     ensures { outcome_of result ≡ question_check_lem (lent_network network.now (closures_of closures.now)) asker source tick }
 {
     closed_network_check(network, closures, asker)?;
-    if network.junctions <= source {
+    if network.junctions <= source as usize {
         return Err(Refusal::Source);
     }
     if Tick::DAY <= tick {

@@ -7,7 +7,7 @@ ghost use Rattle.model.specs.Lent.{lent_network};
 ghost use Rattle.dijkstra.specs.Labelable.{Labelable, LabelsLeft, PredecessorsLeft};
 ghost use Rattle.index_bounds.specs.Fitting.{Fits};
 
-use crate::link::link_arcs;
+use crate::link::{Links, link_arcs};
 use crate::settle::settle;
 use crate::tables::Tables;
 use closed_arcs::mark::mark_closed;
@@ -37,7 +37,11 @@ fn label_all(
     labels.fill(UNREACHED);
     predecessors.fill(NO_ARC);
     labels[source] = departure;
-    let links = link_arcs(network.tails);
+    let mut links = Links {
+        first: [NO_ARC; MAX_JUNCTIONS],
+        next: [NO_ARC; MAX_ARCS],
+    };
+    link_arcs(network.tails, &mut links);
     let mut marks = [[0u8; 2]; MAX_ARCS];
     mark_closed(closures, &mut marks);
     let roads = Roads {

@@ -26,7 +26,7 @@ pub extern "C" fn exports_network_check(
     ensures { result ≡ number_or0 (network_check_lem (network junctions fences.now tails.now heads.now lengths.now holds.now speeds.now [])) }
 {
     let lent = Network {
-        junctions,
+        junctions: junctions as usize,
         fences,
         tails,
         heads,

@@ -34,7 +34,7 @@ pub extern "C" fn exports_passes(
         predecessors_after (network junctions fences.now tails.now heads.now lengths.now holds.now speeds.now closures.now) asker source departure labels.old predecessors.old }
 {
     let lent = Network {
-        junctions,
+        junctions: junctions as usize,
         fences,
         tails,
         heads,

@@ -35,7 +35,7 @@ pub extern "C" fn exports_labels(
         predecessors_after (network junctions fences.now tails.now heads.now lengths.now holds.now speeds.now closures.now) asker source departure labels.old predecessors.old }
 {
     let lent = Network {
-        junctions,
+        junctions: junctions as usize,
         fences,
         tails,
         heads,
@@ -82,7 +82,7 @@ pub extern "C" fn exports_sheet(
         sheet_figures_after (network junctions fences.now tails.now heads.now lengths.now holds.now speeds.now closures.now) asker source departures.now labels.old figures.old }
 {
     let lent = Network {
-        junctions,
+        junctions: junctions as usize,
         fences,
         tails,
         heads,
@@ -117,7 +117,7 @@ pub extern "C" fn exports_route(
     ensures arcs { arcs.new ≡ arcs_after (network junctions fences.now tails.now heads.now lengths.now holds.now speeds.now closures.now) asker source departure destination arcs.old }
 {
     let lent = Network {
-        junctions,
+        junctions: junctions as usize,
         fences,
         tails,
         heads,

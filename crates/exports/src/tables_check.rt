@@ -29,7 +29,7 @@ pub extern "C" fn exports_tables_check(
     ensures { result ≡ yes_code (tables_answer (network junctions fences.now tails.now heads.now lengths.now holds.now speeds.now closures.now) asker source departure labels.now predecessors.now) }
 {
     let lent = Network {
-        junctions,
+        junctions: junctions as usize,
         fences,
         tails,
         heads,

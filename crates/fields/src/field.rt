@@ -70,6 +70,8 @@ fn just_zero(text: &[u8], end: usize) -> Option<Field>
 }
 
 // What follows a first digit that is not 0. The value tells how many digits there are, so they are not counted.
+// It belongs into its one caller: as a call it hands its answer over in memory.
+#[inline(always)]
 fn further_digits(text: &[u8], second: usize, digit: u8) -> Option<Field>
     ensures { result ≡ number_from text.now second digit }
 {

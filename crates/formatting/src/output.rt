@@ -1,5 +1,5 @@
 // What is printed into a lent buffer, one thing behind the other. A byte or a text for which the buffer has no room is left out.
-ghost use Rattle.std.specs.Prelude.{◌≡◌, [], ◌∷◌};
+ghost use Rattle.std.specs.Prelude.{◌≡◌, [], ◌∷◌, length};
 ghost use Rattle.refusals.specs.Refusals.{number_of};
 ghost use Rattle.formatting.specs.Digits.{digits_of};
 ghost use Rattle.formatting.specs.Output.{Puts};
@@ -14,6 +14,16 @@ pub struct Output<'a> {
     pub buffer: &'a mut [u8],
     // How much of it is written.
     pub length: usize,
+}
+
+// Byte by byte, between two parts that are lent apart: the compiler makes a memcpy of that, while for std's copy an archive for C needs memmove.
+fn copy(text: &[u8], part: &mut [u8])
+    requires { length part.old ≡ length text.now }
+    ensures { part.new ≡ text.now }
+{
+    for (at, byte) in text.iter().enumerate() {
+        part[at] = *byte;
+    }
 }
 
 impl<'a> Output<'a> {
@@ -40,7 +50,7 @@ impl<'a> Output<'a> {
         let start = self.length;
         if start <= self.buffer.len() && text.len() <= self.buffer.len() - start {
             let end = start + text.len();
-            self.buffer[start..end].copy_from_slice(text);
+            copy(text, &mut self.buffer[start..end]);
             self.length = end;
         }
     }

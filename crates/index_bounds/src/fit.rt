@@ -15,7 +15,7 @@ fn tables_fit(network: &Network) -> bool
     let junctions = network.junctions;
     let intervals = network.fences.len();
     let arcs = network.tails.len();
-    if MAX_JUNCTIONS < junctions as usize || MAX_INTERVALS < intervals || MAX_ARCS < arcs {
+    if MAX_JUNCTIONS < junctions || MAX_INTERVALS < intervals || MAX_ARCS < arcs {
         return false;
     }
     if network.heads.len() != arcs
@@ -25,7 +25,8 @@ fn tables_fit(network: &Network) -> bool
     {
         return false;
     }
-    (highest(0, network.tails) as u32) < junctions && (highest(0, network.heads) as u32) < junctions
+    (highest(0, network.tails) as usize) < junctions
+        && (highest(0, network.heads) as usize) < junctions
 }
 
 // The buffers are told by their lengths. Nothing is asked of closures: a record's arc is tested
@@ -40,7 +41,7 @@ pub fn fits(
     ensures { (closures : List Closure) →
         (result ≡ true) ↔ Fits (lent_network network.now closures) source departure label_count predecessor_count }
 {
-    let junctions = network.junctions as usize;
+    let junctions = network.junctions;
     if junctions <= source || Tick::LAST < departure {
         return false;
     }

@@ -22,10 +22,10 @@ pub fn labels_check(
     ensures { outcome_of result ≡ labels_answer (lent_network network.now (closures_of closures.now)) asker source tick labels.now predecessors.now }
 {
     question_check(network, closures, asker, source, tick)?;
-    if labels.len() != network.junctions as usize {
+    if labels.len() != network.junctions {
         return Err(Refusal::BufferLength);
     }
-    if predecessors.len() != network.junctions as usize {
+    if predecessors.len() != network.junctions {
         return Err(Refusal::BufferLength);
     }
     Ok(())

@@ -26,7 +26,7 @@ pub fn labels_within(
     ensures predecessors { predecessors.new ≡
         predecessors_within (lent_network network.now (closures_of closures.now)) asker source departure.number labels.old predecessors.old }
 {
-    let count = network.junctions as usize;
+    let count = network.junctions;
     let labelled = count.min(labels.len());
     let preceded = count.min(predecessors.len());
     crate::labels::labels(

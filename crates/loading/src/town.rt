@@ -66,7 +66,7 @@ impl Town {
         let intervals = counts.intervals as usize;
         let arcs = counts.arcs as usize;
         Network {
-            junctions: counts.junctions,
+            junctions: counts.junctions as usize,
             fences: &self.fences[..intervals],
             tails: &self.tails[..arcs],
             heads: &self.heads[..arcs],

@@ -2,7 +2,7 @@
 
 #[derive(Clone, Copy)]
 pub struct Network<'a> {
-    pub junctions: u32,
+    pub junctions: usize,
     // The tick of the day at which each interval starts.
     pub fences: &'a [u32],
     // For each arc the junctions that it goes from and to. The arc count is the length of the tails.

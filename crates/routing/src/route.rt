@@ -124,7 +124,7 @@ pub fn route(
         &mut earliest,
         &mut predecessors,
     )?;
-    let junctions = network.junctions as usize;
+    let junctions = network.junctions;
     let back = WayBack {
         tails: network.tails,
         predecessors: &predecessors[..junctions],

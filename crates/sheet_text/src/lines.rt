@@ -46,12 +46,12 @@ fn put_lines(output: &mut Output, junctions: usize, figures: &[u32])
     }
 }
 
-pub(crate) fn put_sheet(buffer: &mut [u8; OUTPUT], junctions: u32, figures: &[u32]) -> Text
+pub(crate) fn put_sheet(buffer: &mut [u8; OUTPUT], junctions: usize, figures: &[u32]) -> Text
     requires { LinesFit junctions figures.now }
     ensures { Printed (sheet_lines figures.now 0 junctions) false buffer.old buffer.new result }
 {
     let mut output = Output::new(buffer);
-    put_lines(&mut output, junctions as usize, figures);
+    put_lines(&mut output, junctions, figures);
     Text {
         length: output.length,
         refused: false,

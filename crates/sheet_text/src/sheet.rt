@@ -41,7 +41,7 @@ fn sheet_parts(
         sheet_figures_after (lent_network network.now []) brigade source departures.now
         (take (length departures.now * network.now.junctions) labels.old) (take (4 * network.now.junctions) figures.old) }
 {
-    let count = network.junctions as usize;
+    let count = network.junctions;
     let labels_end = departures.len() * count;
     let figures_end = FIGURES * count;
     let no_closures = [[0u32; 4]; 0];

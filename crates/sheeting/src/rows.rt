@@ -21,7 +21,7 @@ pub(crate) fn write_rows(
     requires { RowsAsked (lent_network network.now (closures_of closures.now)) source departures.now labels.old }
     ensures { labels.new ≡ rows_of (lent_network network.now (closures_of closures.now)) source departures.now }
 {
-    let junctions = network.junctions as usize;
+    let junctions = network.junctions;
     let mut predecessors = [NO_ARC; MAX_JUNCTIONS];
     for (k, departure) in departures.iter().enumerate() {
         let from = k * junctions;

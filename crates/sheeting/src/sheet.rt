@@ -39,7 +39,7 @@ fn shift_check(
     ensures { outcome_of result ≡ shift_check_lem (lent_network network.now (closures_of closures.now)) asker source departures.now }
 {
     closed_network_check(network, closures, asker)?;
-    if network.junctions <= source {
+    if network.junctions <= source as usize {
         return Err(Refusal::Source);
     }
     if departures.is_empty() || MAX_DEPARTURES < departures.len() {
@@ -69,13 +69,13 @@ pub fn sheet(
         sheet_figures_after (lent_network network.now (closures_of closures.now)) asker source departures.now labels.old figures.old }
 {
     shift_check(network, closures, asker, source, departures)?;
-    let junctions = network.junctions as usize;
+    let junctions = network.junctions;
     if labels.len() != departures.len() * junctions || figures.len() != FIGURES * junctions {
         return Err(Refusal::SheetLength);
     }
     let mut rows = [[0u32; 4]; MAX_CLOSURES];
-    let stopping = put_stopping(asker, closures, &mut rows);
-    write_rows(network, stopping, source as usize, departures, labels);
+    let count = put_stopping(asker, closures, &mut rows);
+    write_rows(network, &rows[..count], source as usize, departures, labels);
     write_figures(labels, departures, junctions, figures);
     Ok(())
 }

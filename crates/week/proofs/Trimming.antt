@@ -4,8 +4,8 @@ use mathlib.Core.Path.{◌≡◌, refl, sym, ap, ◌∙◌}
 use mathlib.Core.List.{List, [], ◌∷◌, ◌++◌}
 use native.Mathlib.Numerals.{add-one}
 use native.Mathlib.Omega.{arith}
-use lib.ListN.{length, get_or, take, drop, replicate, length-append, length-replicate, length-take}
-use lib.Seq.{take-suc, take-length}
+use lib.ListN.{length, get_or, set, take, drop, replicate, length-append, length-replicate, length-take}
+use lib.Seq.{take-suc, take-suc-set, take-length}
 use Rattle.week.specs.WeekList.{weekdays}
 use Rattle.week.specs.Store.{with_first, trimmed, masks_in_lem, list_in_lem, row}
 
@@ -73,6 +73,26 @@ pub row_length : (masks : List ℕ) → length masks ≤ weekdays → length (ro
 row_length masks few =
     let rest = weekdays - length masks in
     length-append masks (zeros rest) ∙ rw (length-replicate {A = ℕ} rest 0) (omega (arith, few))
+
+zeros_at : (n place : ℕ) → get_or (zeros n) place 0 ≡ 0
+zeros_at zero place = refl
+zeros_at (suc n) zero = refl
+zeros_at (suc n) (suc place) = zeros_at n place
+
+behind : (n : ℕ) (masks : List ℕ) (place : ℕ) → get_or (masks ++ zeros n) place 0 ≡ get_or masks place 0
+behind n [] place = zeros_at n place
+behind n (mask ∷ masks) zero = refl
+behind n (mask ∷ masks) (suc place) = behind n masks place
+
+pub row_at : (masks : List ℕ) (place : ℕ) → get_or (row masks) place 0 ≡ get_or masks place 0
+row_at masks place = behind (weekdays - length masks) masks place
+
+-- One place more of a row is written.
+pub one_written : (masks written : List ℕ) (place : ℕ) → length masks ≤ weekdays → length written ≡ weekdays → place < weekdays →
+    take place written ≡ take place (row masks) → take (place + 1) (set written place (get_or masks place 0)) ≡ take (place + 1) (row masks)
+one_written masks written place few long less so_far =
+    let room : place < length (row masks) = omega (arith, row_length masks few, less) in
+    rw (add-one place, take-suc-set written place (get_or masks place 0) (omega (arith, long, less)), take-suc (row masks) place 0 room, so_far, row_at masks place) refl
 
 -- ---- A stored list
 

@@ -85,14 +85,23 @@ fn stored_keeps(masks: &[u8]) -> bool
     add_up(together, sum)
 }
 
-// The list's masks, and zeros behind them.
+// A list's mask at a place, and 0 behind its last.
+fn mask_at(masks: &[u8], place: usize) -> u8
+    ensures { result ≡ get_or masks.now place 0 }
+{
+    if place < masks.len() { masks[place] } else { 0 }
+}
+
+// The list's masks, and zeros behind them. Each place is written once: a row that is filled with zeros first is for a moment no list at all, and for a slice's copy an
+// archive for C needs memmove.
 fn put_row(masks: &[u8], row: &mut [u8])
     requires masks_len_bound { length masks.now ≤ weekdays }
     requires row_len { length row.old ≡ weekdays }
     ensures { row.new ≡ row_of masks.now }
 {
-    row.fill(0);
-    row[..masks.len()].copy_from_slice(masks);
+    for place in 0..row.len() {
+        row[place] = mask_at(masks, place);
+    }
 }
 
 fn put_list(masks: &[u8], slot: usize, lists: &mut [u8])

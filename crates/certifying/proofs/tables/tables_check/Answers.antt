@@ -5,9 +5,9 @@ use Rattle.labelling.proofs.LabelRules.{stopping_rows, labelable_stopping}
 use Rattle.certifying.proofs.tables.tables_check.Goals as goal
 
 pub certified-requires : goal.certified-requires
-certified-requires c = labelable_stopping _ _ _ _ _ _ _ _ c.in_ok-labels_check.ensures refl c.put_stopping-stopping.ensures.rows
+certified-requires c = labelable_stopping _ _ _ _ _ _ _ _ c.in_ok-labels_check.ensures refl c.put_stopping-count.ensures.rows
 
 pub returns : goal.returns
 returns c =
     let replies = c.in_ok-labels_check.ensures in
-    rw (← replies) (ap replied (rw (stopping_rows _ _ _ _ _ _ _ _ replies refl c.put_stopping-stopping.ensures.rows) at c.certified.ensures))
+    rw (← replies) (ap replied (rw (stopping_rows _ _ _ _ _ _ _ _ replies refl c.put_stopping-count.ensures.rows) at c.certified.ensures))

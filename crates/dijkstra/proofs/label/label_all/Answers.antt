@@ -29,7 +29,7 @@ loop-roads-init c =
     let predecessors_are = c.fill-2.ensures.after (λ y e. e) ∙ ap (λ n. replicate n no_arc) c.requires.predecessors_long in
     let entered = c.enter.ensures (equal_keys never) (omega (arith, c.requires.source_below, c.requires.tables_fit.junctions_fit)) in (
       record {
-        linked = c.link_arcs-links.ensures;
+        linked = c.link_arcs.ensures;
         standing = stands_first c.requires.source_below c.requires.in_time labels_are predecessors_are c.key_of.ensures entered;
         round = λ q. round_starts q labels_are predecessors_are c.interval_of.ensures refl;
       },

@@ -4,4 +4,4 @@ use Rattle.formatting.proofs.Putting.{copied}
 use Rattle.formatting.proofs.output.Output.put_text.Goals as goal
 
 pub returns-then-text-self : goal.returns-then-text-self
-returns-then-text-self c = record { lent = refl; puts = copied c.copy_from_slice.ensures.after }
+returns-then-text-self c = record { lent = refl; puts = copied c.copy.ensures }

@@ -92,8 +92,7 @@ fn mask_at(masks: &[u8], place: usize) -> u8
     if place < masks.len() { masks[place] } else { 0 }
 }
 
-// The list's masks, and zeros behind them. Each place is written once: a row that is filled with zeros first is for a moment no list at all, and for a slice's copy an
-// archive for C needs memmove.
+// The list's masks, and zeros behind them. Each place is written once: for a slice's copy an archive for C needs memmove.
 fn put_row(masks: &[u8], row: &mut [u8])
     requires masks_len_bound { length masks.now ≤ weekdays }
     requires row_len { length row.old ≡ weekdays }

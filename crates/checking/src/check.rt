@@ -37,7 +37,8 @@ fn arc_ends_keep(junctions: u32, tail: u16, head: u16) -> bool
 }
 
 // So does every arc. The scan goes on behind one that does not, so that the compiler can take many arcs at once, as it cannot where a `zip` asks for both
-// tables' ends.
+// tables' ends. It stays a call of its own: in its caller the count would be one of 64 bits, and half as many arcs be compared at once.
+#[inline(never)]
 #[tactic(auto, using(crate::proofs::EndsScan::ends_steps))]
 pub(crate) fn ends_keep(junctions: u32, tails: &[u16], heads: &[u16]) -> bool
     requires { length heads.now ≡ length tails.now }

@@ -29,6 +29,7 @@ pub fn network_check(network: &Network) -> Result<(), Refusal>
     if !fences_keep(network.fences) {
         return Err(Refusal::Fence);
     }
+    // The count is within its limit here, so that 32 bits hold it.
     if !ends_keep(network.junctions as u32, network.tails, network.heads) {
         return Err(Refusal::ArcEnds);
     }

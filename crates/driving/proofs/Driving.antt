@@ -24,6 +24,7 @@ pub record Driving (departure interval metres : ℕ) (fences speeds : List ℕ) 
   pub days : ℕ
   pub is_midnight : midnight ≡ days * day
   pub before_last : midnight < last
+  pub left_fits : left ≤ 154618822656
   pub when_kept : ArcKept departure interval metres fences speeds → AtTry fences speeds metres departure midnight k time left
 
 -- The turns left: those of the day, and on the first day those of the second too.
@@ -55,10 +56,10 @@ module _ {departure interval metres : ℕ} {fences speeds : List ℕ} where
     left_over = left_over kept t;
   }
 
-  pub driving_starts : interval < min (length fences) (length speeds) → departure < last →
+  pub driving_starts : interval < min (length fences) (length speeds) → departure < last → metres < 4294967296 →
       {time midnight : ℕ} → time ≡ time_of_day_lem departure → midnight ≡ departure - time →
       Driving departure interval metres fences speeds midnight interval time (36 * metres)
-  driving_starts inside early {time} {midnight} time-is midnight-is =
+  driving_starts inside early long {time} {midnight} time-is midnight-is =
       let (split, in_day_law) = day_and_time departure in
       let whole : midnight + time ≡ departure = omega arith in
       record {
@@ -66,6 +67,7 @@ module _ {departure interval metres : ℕ} {fences speeds : List ℕ} where
         days = departure / day;
         is_midnight = omega arith;
         before_last = omega arith;
+        left_fits = omega (arith, long);
         when_kept = λ kept. at_try kept (omega arith) (rw time-is (in_interval_of kept)) (rw whole (Try.first early));
       }
 
@@ -178,6 +180,7 @@ module _ {departure interval metres : ℕ} {fences speeds : List ℕ} where
       days = d.days;
       is_midnight = d.is_midnight;
       before_last = d.before_last;
+      left_fits = omega (arith, d.left_fits);
       when_kept = λ kept. rw over-is (tries_on kept h (omega arith));
     }
 
@@ -188,5 +191,6 @@ module _ {departure interval metres : ℕ} {fences speeds : List ℕ} where
       days = suc d.days;
       is_midnight = omega (arith, d.is_midnight);
       before_last = early;
+      left_fits = omega (arith, d.left_fits);
       when_kept = λ kept. rw over-is (tries_next_day kept h (omega (arith, kept.as_many)) early);
     }

@@ -70,6 +70,7 @@ pub record DrivenTo (departure metres : ℕ) (fences speeds : List ℕ) (v : ℕ
 
 pub record DrivingClosed (departure interval metres : ℕ) (fences speeds : List ℕ) (arc : ℕ) (closures : List Closure) (k tick left : ℕ) : Type 0 where
   pub inside : k < min (length fences) (length speeds)
+  pub left_fits : left ≤ 154618822656
   pub when_kept : ArcKept departure interval metres fences speeds →
       DrivenTo departure metres fences speeds (with_closures closures arc (speed_at fences speeds)) k tick left
 
@@ -145,6 +146,7 @@ module _ {departure interval metres : ℕ} {fences speeds : List ℕ} {arc : ℕ
             DrivingClosed departure interval metres fences speeds arc closures next until over
         drives_past_piece h {over} over-is inside next_is = record {
           inside = inside;
+          left_fits = omega (arith, d.left_fits);
           when_kept = λ kept. record {
             kept_here = record {
               in_time = (piece kept).in_time;

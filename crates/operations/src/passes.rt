@@ -25,10 +25,10 @@ pub fn passes(
     ensures predecessors { predecessors.new ≡ predecessors_after (lent_network network.now closures.now) asker source departure.number labels.old predecessors.old }
 {
     let mut table = [[0u32; 4]; ROWS];
-    let rows = read_closures(closures, &mut table);
+    let count = read_closures(closures, &mut table);
     passing::passes::passes(
         network,
-        rows,
+        &table[..count],
         asker,
         source,
         departure,

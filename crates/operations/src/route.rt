@@ -24,6 +24,14 @@ pub fn route(
     ensures arcs { arcs.new ≡ arcs_after (lent_network network.now closures.now) asker source departure.number destination arcs.old }
 {
     let mut table = [[0u32; 4]; ROWS];
-    let rows = read_closures(closures, &mut table);
-    routing::route::route(network, rows, asker, source, departure, destination, arcs)
+    let count = read_closures(closures, &mut table);
+    routing::route::route(
+        network,
+        &table[..count],
+        asker,
+        source,
+        departure,
+        destination,
+        arcs,
+    )
 }

@@ -23,6 +23,14 @@ pub fn sheet(
     ensures figures { figures.new ≡ sheet_figures_after (lent_network network.now closures.now) asker source departures.now labels.old figures.old }
 {
     let mut table = [[0u32; 4]; ROWS];
-    let rows = read_closures(closures, &mut table);
-    sheeting::sheet::sheet(network, rows, asker, source, departures, labels, figures)
+    let count = read_closures(closures, &mut table);
+    sheeting::sheet::sheet(
+        network,
+        &table[..count],
+        asker,
+        source,
+        departures,
+        labels,
+        figures,
+    )
 }

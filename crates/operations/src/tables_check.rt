@@ -22,10 +22,10 @@ pub fn tables_check(
     ensures { outcome_of result ≡ tables_answer (lent_network network.now closures.now) asker source departure.number labels.now predecessors.now }
 {
     let mut table = [[0u32; 4]; ROWS];
-    let rows = read_closures(closures, &mut table);
+    let count = read_closures(closures, &mut table);
     certifying::tables::tables_check(
         network,
-        rows,
+        &table[..count],
         asker,
         source,
         departure,

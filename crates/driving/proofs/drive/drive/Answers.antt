@@ -15,7 +15,7 @@ returns-then-departure-ge-LAST-clause-result_value c = λ kept. ap (tick_and_int
 pub loop-left-init : goal.loop-left-init
 loop-left-init c =
     driving_starts (omega (arith, c.if-intervals-interval.false, c.min-intervals.ensures)) c.if-departure-ge-LAST.false
-    c.time_of_day-time.ensures refl
+    (omega arith) c.time_of_day-time.ensures refl
 
 pub loop-left-preserved-then-k-intervals : goal.loop-left-preserved-then-k-intervals
 loop-left-preserved-then-k-intervals c =

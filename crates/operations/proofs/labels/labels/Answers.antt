@@ -7,7 +7,7 @@ use Rattle.operations.proofs.labels.labels.Goals as goal
 pub returns : goal.returns
 returns c =
     let args = c.args in
-    let same = alike (labels_too_long (lent_network args.network.now []) args.asker args.source args.departure.number args.labels.now args.predecessors.now) c.read_closures-rows.ensures.stand in
+    let same = alike (labels_too_long (lent_network args.network.now []) args.asker args.source args.departure.number args.labels.now args.predecessors.now) c.read_closures-count.ensures.stand in
     let e = c.labels.ensures in
     record {
       answer = e.answer ∙ same.0;

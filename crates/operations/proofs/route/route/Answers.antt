@@ -7,7 +7,7 @@ use Rattle.operations.proofs.route.route.Goals as goal
 pub returns : goal.returns
 returns c =
     let args = c.args in
-    let same = alike (route_too_long (lent_network args.network.now []) args.asker args.source args.departure.number args.destination args.arcs.now) c.read_closures-rows.ensures.stand in
+    let same = alike (route_too_long (lent_network args.network.now []) args.asker args.source args.departure.number args.destination args.arcs.now) c.read_closures-count.ensures.stand in
     let e = c.route.ensures in
     record {
       answer = e.answer ∙ same.0;

@@ -7,7 +7,7 @@ use Rattle.operations.proofs.sheet.sheet.Goals as goal
 pub returns : goal.returns
 returns c =
     let args = c.args in
-    let same = alike (sheet_too_long (lent_network args.network.now []) args.asker args.source args.departures.now args.labels.now args.figures.now) c.read_closures-rows.ensures.stand in
+    let same = alike (sheet_too_long (lent_network args.network.now []) args.asker args.source args.departures.now args.labels.now args.figures.now) c.read_closures-count.ensures.stand in
     let e = c.sheet.ensures in
     record {
       answer = e.answer ∙ same.0;

@@ -8,6 +8,6 @@ pub returns : goal.returns
 returns c =
     let args = c.args in
     let too_long = tables_too_long (lent_network args.network.now []) args.asker args.source args.departure.number args.labels.now args.predecessors.now in
-    let same = answer_alike too_long c.read_closures-rows.ensures.stand in
+    let same = answer_alike too_long c.read_closures-count.ensures.stand in
     let e = c.tables_check.ensures in
     e ∙ same

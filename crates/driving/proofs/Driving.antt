@@ -19,13 +19,18 @@ use Rattle.driving.proofs.Tries.{day_and_time, counted_at_tick, try_before_last,
 
 -- ---- The loop's state
 
-pub record Driving (departure interval metres : ℕ) (fences speeds : List ℕ) (midnight k time left : ℕ) : Type 0 where
+-- At the start of a turn, with at most so much left.
+pub record DrivingWithin (most departure interval metres : ℕ) (fences speeds : List ℕ) (midnight k time left : ℕ) : Type 0 where
   pub inside : k < min (length fences) (length speeds)
   pub days : ℕ
   pub is_midnight : midnight ≡ days * day
   pub before_last : midnight < last
-  pub left_fits : left ≤ 154618822656
+  pub left_fits : left ≤ most
   pub when_kept : ArcKept departure interval metres fences speeds → AtTry fences speeds metres departure midnight k time left
+
+-- Of a length of 32 bits the loop has no more left than this. The laws of a turn are of every bound.
+abbrev pub Driving : ℕ → ℕ → ℕ → List ℕ → List ℕ → ℕ → ℕ → ℕ → ℕ → Type 0
+Driving = DrivingWithin 154618822656
 
 -- The turns left: those of the day, and on the first day those of the second too.
 abbrev pub turns_left : ℕ → ℕ → ℕ → ℕ
@@ -56,10 +61,11 @@ module _ {departure interval metres : ℕ} {fences speeds : List ℕ} where
     left_over = left_over kept t;
   }
 
-  pub driving_starts : interval < min (length fences) (length speeds) → departure < last → metres < 4294967296 →
+  -- of any length: no more is left than the whole
+  pub driving_starts : interval < min (length fences) (length speeds) → departure < last →
       {time midnight : ℕ} → time ≡ time_of_day_lem departure → midnight ≡ departure - time →
-      Driving departure interval metres fences speeds midnight interval time (36 * metres)
-  driving_starts inside early long {time} {midnight} time-is midnight-is =
+      DrivingWithin (36 * metres) departure interval metres fences speeds midnight interval time (36 * metres)
+  driving_starts inside early {time} {midnight} time-is midnight-is =
       let (split, in_day_law) = day_and_time departure in
       let whole : midnight + time ≡ departure = omega arith in
       record {
@@ -67,12 +73,26 @@ module _ {departure interval metres : ℕ} {fences speeds : List ℕ} where
         days = departure / day;
         is_midnight = omega arith;
         before_last = omega arith;
-        left_fits = omega (arith, long);
+        left_fits = omega arith;
         when_kept = λ kept. at_try kept (omega arith) (rw time-is (in_interval_of kept)) (rw whole (Try.first early));
       }
 
+  pub driving_starts_in_32_bits : interval < min (length fences) (length speeds) → departure < last → metres < 4294967296 →
+      {time midnight : ℕ} → time ≡ time_of_day_lem departure → midnight ≡ departure - time →
+      Driving departure interval metres fences speeds midnight interval time (36 * metres)
+  driving_starts_in_32_bits inside early long time-is midnight-is =
+      let d = driving_starts inside early time-is midnight-is in
+      record {
+        inside = d.inside;
+        days = d.days;
+        is_midnight = d.is_midnight;
+        before_last = d.before_last;
+        left_fits = omega (arith, long);
+        when_kept = d.when_kept;
+      }
+
   -- A turn: interval k with its end, and the spans that it covers.
-  module _ {midnight k time left : ℕ} (d : Driving departure interval metres fences speeds midnight k time left) {end covers : ℕ}
+  module _ {midnight k time left most : ℕ} (d : DrivingWithin most departure interval metres fences speeds midnight k time left) {end covers : ℕ}
       (end_is : end ≡ get_or fences (k + 1) day) (covers-is : covers ≡ (end - time) * get_or speeds k 0) where
     -- what the interval covers takes no longer than the interval
     pub by_end : left ≤ covers → ticks_for_lem left (get_or speeds k 0) ≤ end - time
@@ -174,7 +194,7 @@ module _ {departure interval metres : ℕ} {fences speeds : List ℕ} where
           (rw (add-zero, ← ends_day done) (tries_next h (rw (ends_day done) early)))
 
     pub drives_on : covers < left → k + 1 < min (length fences) (length speeds) → {over : ℕ} → over ≡ left - covers →
-        Driving departure interval metres fences speeds midnight (k + 1) end over
+        DrivingWithin most departure interval metres fences speeds midnight (k + 1) end over
     drives_on h more {over} over-is = record {
       inside = more;
       days = d.days;
@@ -185,7 +205,7 @@ module _ {departure interval metres : ℕ} {fences speeds : List ℕ} where
     }
 
     pub drives_past_midnight : covers < left → min (length fences) (length speeds) ≤ k + 1 → midnight + day < last → {over : ℕ} → over ≡ left - covers →
-        Driving departure interval metres fences speeds (midnight + day) 0 0 over
+        DrivingWithin most departure interval metres fences speeds (midnight + day) 0 0 over
     drives_past_midnight h done early {over} over-is = record {
       inside = omega (arith, d.inside);
       days = suc d.days;

@@ -68,14 +68,19 @@ pub record DrivenTo (departure metres : ℕ) (fences speeds : List ℕ) (v : ℕ
   pub above_0 : 0 < left
   pub same_arrival : arrival v left tick ≡ arrival v (spans_of metres) departure
 
-pub record DrivingClosed (departure interval metres : ℕ) (fences speeds : List ℕ) (arc : ℕ) (closures : List Closure) (k tick left : ℕ) : Type 0 where
+-- At the start of a turn, with at most so much left.
+pub record DrivingClosedWithin (most departure interval metres : ℕ) (fences speeds : List ℕ) (arc : ℕ) (closures : List Closure) (k tick left : ℕ) : Type 0 where
   pub inside : k < min (length fences) (length speeds)
-  pub left_fits : left ≤ 154618822656
+  pub left_fits : left ≤ most
   pub when_kept : ArcKept departure interval metres fences speeds →
       DrivenTo departure metres fences speeds (with_closures closures arc (speed_at fences speeds)) k tick left
 
+-- Of a length of 32 bits the loop has no more left than this. The laws of a turn are of every bound.
+abbrev pub DrivingClosed : ℕ → ℕ → ℕ → List ℕ → List ℕ → ℕ → List Closure → ℕ → ℕ → ℕ → Type 0
+DrivingClosed = DrivingClosedWithin 154618822656
+
 module _ {departure interval metres : ℕ} {fences speeds : List ℕ} {arc : ℕ} {closures : List Closure} where
-  module _ {k tick left : ℕ} (d : DrivingClosed departure interval metres fences speeds arc closures k tick left) where
+  module _ {k tick left most : ℕ} (d : DrivingClosedWithin most departure interval metres fences speeds arc closures k tick left) where
     abbrev v : ℕ → ℕ
     v = with_closures closures arc (speed_at fences speeds)
 
@@ -143,7 +148,7 @@ module _ {departure interval metres : ℕ} {fences speeds : List ℕ} {arc : ℕ
 
         pub drives_past_piece : covers < left → {over next : ℕ} → over ≡ left - covers → next < min (length fences) (length speeds) →
             next ≡ cond (ltb until end) k (interval_after_lem (min (length fences) (length speeds)) k) →
-            DrivingClosed departure interval metres fences speeds arc closures next until over
+            DrivingClosedWithin most departure interval metres fences speeds arc closures next until over
         drives_past_piece h {over} over-is inside next_is = record {
           inside = inside;
           left_fits = omega (arith, d.left_fits);

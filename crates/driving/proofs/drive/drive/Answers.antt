@@ -2,7 +2,7 @@
 -- from which the arrival is the whole's. On any arc the interval is one that the loop has come to, or the one after it.
 use Rattle.std.proofs.Common.{ap, refl, arith}
 use Rattle.model.specs.Intervals.{tick_and_interval?}
-use Rattle.driving.proofs.Driving.{kept_inside, never_leaves, driving_starts, arrives_by_end, drives_on, drives_past_midnight, never_arrives}
+use Rattle.driving.proofs.Driving.{kept_inside, never_leaves, driving_starts_in_32_bits, arrives_by_end, drives_on, drives_past_midnight, never_arrives}
 use Rattle.driving.proofs.drive.drive.Goals as goal
 
 pub returns-then-intervals-interval-clause-result_value : goal.returns-then-intervals-interval-clause-result_value
@@ -14,7 +14,7 @@ returns-then-departure-ge-LAST-clause-result_value c = λ kept. ap (tick_and_int
 
 pub loop-left-init : goal.loop-left-init
 loop-left-init c =
-    driving_starts (omega (arith, c.if-intervals-interval.false, c.min-intervals.ensures)) c.if-departure-ge-LAST.false
+    driving_starts_in_32_bits (omega (arith, c.if-intervals-interval.false, c.min-intervals.ensures)) c.if-departure-ge-LAST.false
     (omega arith) c.time_of_day-time.ensures refl
 
 pub loop-left-preserved-then-k-intervals : goal.loop-left-preserved-then-k-intervals
